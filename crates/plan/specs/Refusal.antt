@@ -1,0 +1,24 @@
+-- Why a plan is turned away (01, the table of that name).
+--   number r == the number of the cause
+--   lineOf r == the line that is returned, from 1; 0 where the table returns none
+use Prim.Native.Nat.{ℕ}
+use Rattle.plan.specs.declared.Refusal.{Refusal}
+use Rattle.plan.specs.declared.Refusal.the-variants.{PlanTooLong, Form, Range, ProductTooLarge, BufferTooShort, NoTour, BlockTooShort}
+
+unfoldable pub number : Refusal → ℕ
+number PlanTooLong = 1
+number (Form line) = 2
+number (Range line) = 3
+number ProductTooLarge = 4
+number BufferTooShort = 5
+number NoTour = 6
+number BlockTooShort = 7
+
+unfoldable pub lineOf : Refusal → ℕ
+lineOf PlanTooLong = 0
+lineOf (Form line) = line
+lineOf (Range line) = line
+lineOf ProductTooLarge = 0
+lineOf BufferTooShort = 0
+lineOf NoTour = 0
+lineOf BlockTooShort = 0
