@@ -1,2 +1,6 @@
 pub mod Refusal
 pub mod WellFormed
+pub mod Size
+pub mod Tour
+pub mod Cost
+pub mod Key

@@ -1,0 +1,50 @@
+-- What a tour keeps and what it costs (01, "Tours and what they keep"). A kept byte is a number: bit i is soft rule i + 1.
+--   sumBelow n f          == f 0 + .. + f (n - 1)
+--   keeps k i             == the kept byte k has soft rule i + 1
+--   KeptIs p stem cycle k == k has exactly the soft rules that accept the tour
+--   cost p k              == the sum of the weights of the rules that are not in k
+--   First n k k′          == the first of n rules on which k and k′ differ is in k
+--   Better p k k′         == k costs less than k′, or the same and keeps the first rule on which they differ
+--   Best p k              == no tour that the hard rule accepts, of any lengths, keeps a set better than k (demand 3)
+use mathlib.Core.Path.{_≡_}
+use mathlib.Core.Bool.{Bool, true, false, cond}
+use mathlib.Core.List.{List}
+use mathlib.Core.Logic.{_⊎_}
+use Prim.Native.Nat.{ℕ, zero, suc, _+_, _^_, _<_}
+use lib.Dec.{eqb}
+use Rattle.automata.specs.Bits.{bit}
+use Rattle.plan.specs.WellFormed.{weight}
+use Rattle.plan.specs.Tour.{IsLasso, Hard, Soft}
+use Rattle.plan.specs.declared.Plan.{Plan}
+
+unfoldable pub sumBelow : ℕ → (ℕ → ℕ) → ℕ
+sumBelow zero f = 0
+sumBelow (suc n) f = sumBelow n f + f n
+
+abbrev pub keeps : ℕ → ℕ → Bool
+keeps k i = eqb (bit k i) 1
+
+pub record KeptIs (p : Plan) (stem cycle : List ℕ) (k : ℕ) : Type 0 where
+  pub small : k < 2 ^ p .rules
+  pub accepted : (i : ℕ) → i < p .rules → keeps k i ≡ true → Soft p stem cycle i
+  pub refused : (i : ℕ) → i < p .rules → keeps k i ≡ false → Soft p stem cycle i → ⊥
+
+unfoldable pub cost : Plan → ℕ → ℕ
+cost p k = sumBelow (p .rules) (λ i. cond (keeps k i) 0 (weight p i))
+
+pub record First (n k k′ : ℕ) : Type 0 where
+  pub rule : ℕ
+  pub listed : rule < n
+  pub before : (i : ℕ) → i < rule → keeps k i ≡ keeps k′ i
+  pub kept : keeps k rule ≡ true
+  pub dropped : keeps k′ rule ≡ false
+
+abbrev pub Better : Plan → ℕ → ℕ → Type 0
+Better p k k′ = (cost p k < cost p k′) ⊎ ((cost p k ≡ cost p k′) × First (p .rules) k k′)
+
+-- k′ is any set of rules that accept the tour. The tour's own kept byte is one of them, which gives demand 3 to the letter
+-- (`best-kept`, of the proofs); stated for every such set, it is also what makes the kept byte exact.
+abbrev pub Best : Plan → ℕ → Type 0
+Best p k =
+    (stem cycle : List ℕ) → IsLasso p stem cycle → Hard p stem cycle → (k′ : ℕ) → k′ < 2 ^ p .rules
+    → ((i : ℕ) → i < p .rules → keeps k′ i ≡ true → Soft p stem cycle i) → (k ≡ k′) ⊎ Better p k k′
