@@ -1,0 +1,34 @@
+-- Laws of sums and of kept bytes.
+--   sum-le                     == a sum of smaller terms is smaller
+--   keeps-bit                  == equal tests of two kept bytes, equal bits
+--   kept-ext                   == kept bytes below 2 ^ n that agree on n rules are equal
+use mathlib.Core.Path.{_≡_, refl, sym, ap, _∙_}
+use mathlib.Core.Bool.{Bool, true, false, cond}
+use Prim.Native.Nat.{ℕ, zero, suc, _+_, _^_, _≤_, _<_}
+use native.Mathlib.Decide.{decLt, ℕ-discrete}
+use native.Mathlib.Omega.{arith}
+use borrow.Author.Tests.{eqb-true, eqb-false, eq-eqb}
+use Rattle.automata.specs.Bits.{bit}
+use Rattle.automata.proofs.Bits.{bit-lt, bit-ext, bit-high}
+use Rattle.plan.specs.Cost.{sumBelow, keeps}
+
+pub sum-le : (n : ℕ) (f g : ℕ → ℕ) → ((i : ℕ) → i < n → f i ≤ g i) → sumBelow n f ≤ sumBelow n g
+unfolding sumBelow
+sum-le zero f g h = omega arith
+sum-le (suc n) f g h = omega (arith, sum-le n f g (λ i l. h i (omega arith)), h n (omega arith))
+
+pub keeps-bit : (k k′ i : ℕ) → keeps k i ≡ keeps k′ i → bit k i ≡ bit k′ i
+keeps-bit k k′ i e = by (ℕ-discrete (bit k i) 1) (ℕ-discrete (bit k′ i) 1)
+  where
+    by : Dec (bit k i ≡ 1) → Dec (bit k′ i ≡ 1) → bit k i ≡ bit k′ i
+    by (yes a) (yes b) = omega arith
+    by (no a) (no b) = omega (arith, bit-lt k i, bit-lt k′ i)
+    by (yes a) (no b) = absurd (b (eqb-true (bit k′ i) 1 (sym e ∙ eq-eqb (bit k i) 1 a)))
+    by (no a) (yes b) = absurd (a (eqb-true (bit k i) 1 (e ∙ eq-eqb (bit k′ i) 1 b)))
+
+pub kept-ext : (n k k′ : ℕ) → k < 2 ^ n → k′ < 2 ^ n → ((i : ℕ) → i < n → keeps k i ≡ keeps k′ i) → k ≡ k′
+kept-ext n k k′ small small′ agree = bit-ext k k′ (λ i. at i (decLt i n))
+  where
+    at : (i : ℕ) → Dec (i < n) → bit k i ≡ bit k′ i
+    at i (yes h) = keeps-bit k k′ i (agree i h)
+    at i (no h) = bit-high n k i small (omega arith) ∙ sym (bit-high n k′ i small′ (omega arith))

@@ -1,0 +1,28 @@
+-- Laws of tours, and two readings of 01 that the definitions shut out.
+--   best-kept   == demand 3 to the letter: the best set against the kept byte of every tour that the hard rule accepts
+--   lone-place  == a lone place is a loop only where a road leads from it to itself
+--   no-road-out == a place without a road out is on no tour
+use mathlib.Core.Path.{_≡_, refl, sym, ap, _∙_, subst}
+use mathlib.Core.Bool.{true, false}
+use mathlib.Core.Logic.{_⊎_}
+use mathlib.Core.List.{List, [], _∷_}
+use Prim.Native.Nat.{ℕ, suc, _+_, _<_}
+use native.Mathlib.Omega.{arith}
+use lib.ListN.{length}
+use Rattle.automata.specs.Acceptance.{lassoAt}
+use Rattle.automata.proofs.Any.{false-not-true}
+use Rattle.plan.specs.Tour.{IsLasso, Hard, joins}
+use Rattle.plan.specs.Cost.{KeptIs, Better, Best}
+use Rattle.plan.specs.declared.Plan.{Plan}
+
+module _ (p : Plan) where
+  pub best-kept : (k : ℕ) → Best p k → (stem cycle : List ℕ) → IsLasso p stem cycle → Hard p stem cycle → (k′ : ℕ) → KeptIs p stem cycle k′ → (k ≡ k′) ⊎ Better p k k′
+  best-kept k best stem cycle lasso hard k′ kept = best stem cycle lasso hard k′ (kept .small) (kept .accepted)
+
+  pub lone-place : (v : ℕ) → IsLasso p [] (v ∷ []) → joins p v v ≡ true
+  unfolding lassoAt
+  lone-place v lasso = lasso .roads 0 (omega arith)
+
+  pub no-road-out : (v : ℕ) → ((w : ℕ) → joins p v w ≡ false) → (stem cycle : List ℕ) → IsLasso p stem cycle
+      → (t : ℕ) → t < length stem + length cycle → lassoAt stem cycle t ≡ v → ⊥
+  no-road-out v stuck stem cycle lasso t h e = false-not-true (rw e at (lasso .roads t h)) (stuck (lassoAt stem cycle (suc t)))
