@@ -3,19 +3,19 @@
 --   key-better           == no greater key: the same set, or a better one
 --   better-key           == and back
 --   key-injective        == sets of equal keys are equal
-use mathlib.Core.Path.{_≡_, refl, sym, ap, _∙_}
-use mathlib.Core.Bool.{true, false, cond}
+use mathlib.Core.Path.{_≡_}
+use mathlib.Core.Bool.{true, false}
 use mathlib.Core.Logic.{_⊎_, inl, inr, _↔_}
-use Prim.Native.Nat.{ℕ, _+_, _*_, _^_, _≤_, _<_}
-use native.Mathlib.Decide.{decLt, ℕ-discrete}
+use Prim.Native.Nat.{ℕ, _^_, _≤_, _<_}
+use native.Mathlib.Decide.{decLt}
 use native.Mathlib.Omega.{arith}
 use lib.Pow.{pow-mono}
 use Rattle.plan.specs.WellFormed.{weight}
-use Rattle.plan.specs.Cost.{keeps, cost, Better, First}
+use Rattle.plan.specs.Cost.{keeps, cost, Better}
 use Rattle.plan.specs.Key.{tie, key}
 use Rattle.plan.specs.declared.Plan.{Plan}
 use Rattle.plan.proofs.Sums.{sum-le, kept-ext}
-use Rattle.plan.proofs.Ties.{tie-lt, tie-agree, agree-tie, first-tie, tie-first, Within, cond-mono, tie-mono, tie-strict}
+use Rattle.plan.proofs.Ties.{tie-lt, agree-tie, first-tie, tie-first, Within, cond-mono, tie-mono, tie-strict}
 
 module _ (p : Plan) where
   cost-mono : (k k′ : ℕ) → Within (p .rules) k k′ → cost p k′ ≤ cost p k

@@ -2,12 +2,11 @@
 --   sum-le                     == a sum of smaller terms is smaller
 --   keeps-bit                  == equal tests of two kept bytes, equal bits
 --   kept-ext                   == kept bytes below 2 ^ n that agree on n rules are equal
-use mathlib.Core.Path.{_≡_, refl, sym, ap, _∙_}
-use mathlib.Core.Bool.{Bool, true, false, cond}
-use Prim.Native.Nat.{ℕ, zero, suc, _+_, _^_, _≤_, _<_}
+use mathlib.Core.Path.{_≡_, sym, _∙_}
+use Prim.Native.Nat.{ℕ, zero, suc, _^_, _≤_, _<_}
 use native.Mathlib.Decide.{decLt, ℕ-discrete}
 use native.Mathlib.Omega.{arith}
-use borrow.Author.Tests.{eqb-true, eqb-false, eq-eqb}
+use borrow.Author.Tests.{eqb-true, eq-eqb}
 use Rattle.automata.specs.Bits.{bit}
 use Rattle.automata.proofs.Bits.{bit-lt, bit-ext, bit-high}
 use Rattle.plan.specs.Cost.{sumBelow, keeps}

@@ -3,7 +3,7 @@
 --   agree-tie, tie-agree == equal ties, equal sets
 --   first-tie, tie-first == a smaller tie, the first differing rule kept
 --   tie-mono, tie-strict == more rules kept, a smaller tie
-use mathlib.Core.Path.{_≡_, refl, sym, ap, ap₂, _∙_, subst}
+use mathlib.Core.Path.{_≡_, refl, sym, ap, ap₂, subst}
 use mathlib.Core.Bool.{Bool, true, false, cond}
 use Prim.Native.Nat.{ℕ, zero, suc, _+_, _*_, _^_, _≤_, _<_}
 use native.Mathlib.Nat.{pow-suc}

@@ -2,7 +2,7 @@
 --   best-kept   == demand 3 to the letter: the best set against the kept byte of every tour that the hard rule accepts
 --   lone-place  == a lone place is a loop only where a road leads from it to itself
 --   no-road-out == a place without a road out is on no tour
-use mathlib.Core.Path.{_≡_, refl, sym, ap, _∙_, subst}
+use mathlib.Core.Path.{_≡_}
 use mathlib.Core.Bool.{true, false}
 use mathlib.Core.Logic.{_⊎_}
 use mathlib.Core.List.{List, [], _∷_}

@@ -4,7 +4,6 @@
 --   noPlan       == no places, no roads and no rules
 --   WellFormed p == every number of p is in its range, the counts are within the arrays, and nothing stands beyond them
 use mathlib.Core.Path.{_≡_}
-use mathlib.Core.List.{List}
 use Prim.Native.Nat.{ℕ, _^_, _≤_, _<_}
 use lib.ListN.{getD, replicate}
 use Rattle.automata.specs.declared.Automaton.{Automaton}
