@@ -11,23 +11,23 @@ use native.Mathlib.Decide.{decLt}
 use native.Mathlib.Omega.{arith}
 use lib.Pow.{pow-mono}
 use Rattle.plan.specs.WellFormed.{weight}
-use Rattle.plan.specs.Cost.{keeps, cost, Better}
-use Rattle.plan.specs.Key.{tie, key}
+use Rattle.plan.specs.Cost.{keeps, cost, costOf, Better}
+use Rattle.plan.specs.Key.{tie, key, keyOf}
 use Rattle.plan.specs.declared.Plan.{Plan}
 use Rattle.plan.proofs.Sums.{sum-le, kept-ext}
 use Rattle.plan.proofs.Ties.{tie-lt, agree-tie, first-tie, tie-first, Within, cond-mono, tie-mono, tie-strict}
 
 module _ (p : Plan) where
   cost-mono : (k k′ : ℕ) → Within (p .rules) k k′ → cost p k′ ≤ cost p k
-  unfolding cost
+  unfolding costOf
   cost-mono k k′ h = sum-le (p .rules) _ _ (λ i l. cond-mono (keeps k i) (keeps k′ i) (weight p i) (h i l))
 
   pub key-mono : (k k′ : ℕ) → Within (p .rules) k k′ → key p k′ ≤ key p k
-  unfolding key
+  unfolding keyOf
   key-mono k k′ h = omega (arith, cost-mono k k′ h, tie-mono (p .rules) k k′ h)
 
   pub key-strict : (k k′ : ℕ) → Within (p .rules) k k′ → (i : ℕ) → i < p .rules → keeps k i ≡ false → keeps k′ i ≡ true → key p k′ < key p k
-  unfolding key
+  unfolding keyOf
   key-strict k k′ h i l out into = omega (arith, cost-mono k k′ h, tie-strict (p .rules) k k′ h i l out into)
 
   module _ (few : p .rules ≤ 8) where
@@ -35,12 +35,12 @@ module _ (p : Plan) where
     tie-small k = omega (arith, tie-lt (p .rules) k, pow-mono few)
 
     pub key-injective : (k k′ : ℕ) → k < 2 ^ p .rules → k′ < 2 ^ p .rules → key p k ≡ key p k′ → k ≡ k′
-    unfolding key
+    unfolding keyOf
     key-injective k k′ small small′ e =
         kept-ext (p .rules) k k′ small small′ (agree-tie (p .rules) k k′ (omega (arith, tie-small k, tie-small k′)))
 
     pub key-better : (k k′ : ℕ) → k < 2 ^ p .rules → k′ < 2 ^ p .rules → key p k ≤ key p k′ → (k ≡ k′) ⊎ Better p k k′
-    unfolding key
+    unfolding keyOf
     key-better k k′ small small′ h = by (decLt (cost p k) (cost p k′)) (decLt (tie (p .rules) k) (tie (p .rules) k′))
       where
         by : Dec (cost p k < cost p k′) → Dec (tie (p .rules) k < tie (p .rules) k′) → (k ≡ k′) ⊎ Better p k k′
@@ -49,7 +49,7 @@ module _ (p : Plan) where
         by (no l) (no t) = inl (key-injective k k′ small small′ (omega (arith, tie-small k, tie-small k′)))
 
     pub better-key : (k k′ : ℕ) → (k ≡ k′) ⊎ Better p k k′ → key p k ≤ key p k′
-    unfolding key
+    unfolding keyOf
     better-key k k′ (inl e) = rw e (omega arith)
     better-key k k′ (inr (inl l)) = omega (arith, tie-small k)
     better-key k k′ (inr (inr (e, f))) = omega (arith, first-tie (p .rules) k k′ f)

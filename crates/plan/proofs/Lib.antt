@@ -3,3 +3,4 @@ pub mod Sums
 pub mod Ties
 pub mod Keys
 pub mod Tours
+pub mod Charging

@@ -2,7 +2,8 @@
 --   sumBelow n f          == f 0 + .. + f (n - 1)
 --   keeps k i             == the kept byte k has soft rule i + 1
 --   KeptIs p stem cycle k == k has exactly the soft rules that accept the tour
---   cost p k              == the sum of the weights of the rules that are not in k
+--   costOf weights n k    == the sum of the weights of the first n rules that are not in k
+--   cost p k              == that of the rules of p
 --   First n k k′          == the first of n rules on which k and k′ differ is in k
 --   Better p k k′         == k costs less than k′, or the same and keeps the first rule on which they differ
 --   Best p k              == no tour that the hard rule accepts, of any lengths, keeps a set better than k (demand 3)
@@ -11,9 +12,9 @@ use mathlib.Core.Bool.{Bool, true, false, cond}
 use mathlib.Core.List.{List}
 use mathlib.Core.Logic.{_⊎_}
 use Prim.Native.Nat.{ℕ, zero, suc, _+_, _^_, _<_}
+use lib.ListN.{getD}
 use lib.Dec.{eqb}
 use Rattle.automata.specs.Bits.{bit}
-use Rattle.plan.specs.WellFormed.{weight}
 use Rattle.plan.specs.Tour.{IsLasso, Hard, Soft}
 use Rattle.plan.specs.declared.Plan.{Plan}
 
@@ -29,8 +30,11 @@ pub record KeptIs (p : Plan) (stem cycle : List ℕ) (k : ℕ) : Type 0 where
   pub accepted : (i : ℕ) → i < p .rules → keeps k i ≡ true → Soft p stem cycle i
   pub refused : (i : ℕ) → i < p .rules → keeps k i ≡ false → Soft p stem cycle i → ⊥
 
-unfoldable pub cost : Plan → ℕ → ℕ
-cost p k = sumBelow (p .rules) (λ i. cond (keeps k i) 0 (weight p i))
+unfoldable pub costOf : List ℕ → ℕ → ℕ → ℕ
+costOf weights n k = sumBelow n (λ i. cond (keeps k i) 0 (getD weights i 0))
+
+abbrev pub cost : Plan → ℕ → ℕ
+cost p k = costOf (p .weights) (p .rules) k
 
 pub record First (n k k′ : ℕ) : Type 0 where
   pub rule : ℕ

@@ -1,4 +1,10 @@
 //! A plan: places with labels, one-way roads, a start, a hard rule and up to eight soft rules with weights.
+ghost use mathlib.Core.Path.{_≡_};
+ghost use mathlib.Core.Bool.{cond};
+ghost use Prim.Native.Nat.{_≤_, _<_};
+ghost use Rattle.automata.specs.Bits.{bit};
+ghost use Rattle.plan.specs.Cost.{keeps, costOf};
+ghost use Rattle.plan.specs.Key.{tie, keyOf};
 use automata::Automaton;
 
 // A plan by value. Place v, for v below `places`, has the label labels[v]; road i, for i below `roads`, goes from place
@@ -26,4 +32,66 @@ pub enum Refusal {
     BufferTooShort,
     NoTour,
     BlockTooShort,
+}
+
+// A number as a wider one.
+fn wide(x: u32) -> u64
+    ensures { λ r. ⌜ (r ≡ x) × (r < 4294967296) ⌝ }
+{
+    x as u64
+}
+
+// Bit i of a kept byte: 1 where soft rule i + 1 is kept.
+fn kept_bit(kept: u64, i: u64) -> u64
+    requires { ⌜ i < 8 ⌝ }
+    ensures { λ r. ⌜ (r ≡ bit kept i) × (r < 2) ⌝ }
+{
+    (kept >> i) & 1
+}
+
+// The amount that a rule is charged with: nothing where it is kept.
+fn left_out(kept: u64, i: u64, amount: u64) -> u64
+    requires { ⌜ i < 8 ⌝ }
+    ensures { λ r. ⌜ (r ≡ cond (keeps kept i) 0 amount) × (r ≤ amount) ⌝ }
+{
+    if kept_bit(kept, i) == 1 {
+        return 0;
+    }
+    amount
+}
+
+// What the first `rules` rules cost that are not kept.
+pub fn cost_of(weights: &[u32; 8], rules: usize, kept: u64) -> u64
+    requires { ⌜ rules ≤ 8 ⌝ }
+    ensures { λ r. ⌜ (r ≡ costOf (now (weights .entry)) rules kept) × (r ≤ 34359738368) ⌝ }
+{
+    let mut cost: u64 = 0;
+    let mut i = 0;
+    while i < rules {
+        cost += left_out(kept, i as u64, wide(weights[i]));
+        i += 1;
+    }
+    cost
+}
+
+// How the first `rules` rules rank a kept byte among those of its cost.
+fn tie_of(rules: usize, kept: u64) -> u64
+    requires { ⌜ rules ≤ 8 ⌝ }
+    ensures { λ r. ⌜ (r ≡ tie rules kept) × (r < 256) ⌝ }
+{
+    let mut tie: u64 = 0;
+    let mut i = 0;
+    while i < rules {
+        tie = tie * 2 + left_out(kept, i as u64, 1);
+        i += 1;
+    }
+    tie
+}
+
+// The key of a kept byte: the smaller, the better.
+pub fn key_of(weights: &[u32; 8], rules: usize, kept: u64) -> u64
+    requires { ⌜ rules ≤ 8 ⌝ }
+    ensures { λ r. ⌜ r ≡ keyOf (now (weights .entry)) rules kept ⌝ }
+{
+    cost_of(weights, rules, kept) * 256 + tie_of(rules, kept)
 }
