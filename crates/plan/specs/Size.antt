@@ -1,7 +1,11 @@
 -- The number N of 01: how many tuples of a place, a state of the hard rule and a state, or the trap, of each soft rule.
 --   productBelow n f == f 0 * .. * f (n - 1)
 --   size p           == N
+--   loopRoom p       == how many bytes of loop the planner asks for
+--   roomy p r l      == a run-in buffer of r bytes and a loop buffer of l are long enough
+use mathlib.Core.Bool.{Bool, _&&_}
 use Prim.Native.Nat.{ℕ, zero, suc, _+_, _*_}
+use lib.Dec.{leb}
 use Rattle.plan.specs.WellFormed.{soft}
 use Rattle.plan.specs.declared.Plan.{Plan}
 
@@ -11,3 +15,9 @@ productBelow (suc n) f = productBelow n f * f n
 
 unfoldable pub size : Plan → ℕ
 size p = p .places * p .hard .states * productBelow (p .rules) (λ i. soft p i .states + 1)
+
+abbrev pub loopRoom : Plan → ℕ
+loopRoom p = (p .rules + 2) * size p
+
+abbrev pub roomy : Plan → ℕ → ℕ → Bool
+roomy p runin loop = leb (size p) runin && leb (loopRoom p) loop

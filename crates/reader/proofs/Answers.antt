@@ -1,0 +1,94 @@
+-- What the parts of a plan file come to: the draft of its lines, and the answer, case by case. The size is judged on the product
+-- held at 2,049, which is above 2,048 exactly where the product is.
+use mathlib.Core.Path.{_≡_, refl}
+use mathlib.Core.List.{List}
+use Prim.Native.Nat.{ℕ, _+_, _^_, _≤_, _<_, min}
+use native.Mathlib.Omega.{arith}
+use lib.ListN.{length}
+use borrow.Author.Tests.{lt-ltb, le-ltb}
+use Rattle.plan.specs.Size.{size}
+use Rattle.plan.specs.Refusal as refusal
+use Rattle.plan.specs.declared.Plan.{Plan}
+use Rattle.plan.specs.declared.Refusal.the-variants.{PlanTooLong, ProductTooLarge}
+use Rattle.reader.specs.Keys.{rulesKey}
+use Rattle.reader.specs.Line.{lineOfOne, firstOf, finish}
+use Rattle.reader.specs.Blocks.{hardBlock, softBlocks}
+use Rattle.reader.specs.Map.{mapOf}
+use Rattle.reader.specs.Outcome.{faultNumber, faultLine}
+use Rattle.reader.specs.Reading.{draftOf, refusalOf, refuse, weigh, answer, readPlan}
+use Rattle.reader.specs.declared.line.Numbers.{Numbers}
+use Rattle.reader.specs.declared.line.Cursor.{Cursor}
+use Rattle.reader.specs.declared.line.Fault.{Fault}
+use Rattle.reader.specs.declared.line.Fault.the-variants.{Form, Range}
+use Rattle.reader.specs.declared.line.Line.{Line}
+use Rattle.reader.specs.declared.line.Line.the-variants as line
+use Rattle.reader.specs.declared.block.AutomatonBlock.{AutomatonBlock}
+use Rattle.reader.specs.declared.block.SoftBlocks.{SoftBlocks}
+use Rattle.reader.specs.declared.map.Map.{Map}
+use Rattle.reader.specs.declared.Draft.{Draft}
+use Rattle.reader.specs.declared.Outcome.the-variants as outcome
+use Rattle.reader.specs.declared.Reading.{Reading}
+use Rattle.reader.proofs.Sticky.{faultAt, draft-early}
+
+-- a fault and its refusal have the same number and line
+pub same-number : (f : Fault) → refusal.number (refusalOf f) ≡ faultNumber f
+unfolding refusal.number refusalOf faultNumber
+same-number (Form n) = refl
+same-number (Range n) = refl
+
+pub same-line : (f : Fault) → refusal.lineOf (refusalOf f) ≡ faultLine f
+unfolding refusal.lineOf refusalOf
+same-line (Form n) = refl
+same-line (Range n) = refl
+
+module _ (p : Plan) where
+  pub too-large : (n : ℕ) → n ≡ min (size p) 2049 → 2048 < n → refuse ProductTooLarge ≡ weigh p
+  unfolding weigh
+  too-large n e h = let k : 2048 < size p = omega arith in rw (lt-ltb 2048 (size p) k)
+
+  pub small-enough : (n : ℕ) → n ≡ min (size p) 2049 → n ≤ 2048 → _≡_ {A = Reading} (record { outcome = outcome.Plan; plan = p }) (weigh p)
+  unfolding weigh
+  small-enough n e h = let k : size p ≤ 2048 = omega arith in rw (le-ltb 2048 (size p) k)
+
+module _ (s : List ℕ) where
+  pub draft-made : (m : Map) (bound : ℕ) (h : AutomatonBlock) (count : Line) (n : ℕ) (x : SoftBlocks) (l : Line)
+      → m ≡ mapOf s → bound ≡ 2 ^ m .marks → h ≡ hardBlock s (m .line) bound → count ≡ lineOfOne s (h .line) rulesKey 0 9
+      → n ≡ firstOf count → x ≡ softBlocks s count n bound → l ≡ finish s (x .line)
+      → _≡_ {A = Draft} (record {
+        line = l;
+        plan = record {
+          marks = m .marks;
+          places = m .places;
+          start = m .start;
+          roads = m .roads;
+          rules = n;
+          labels = m .labels;
+          from = m .from;
+          to = m .to;
+          hard = h .automaton;
+          soft = x .soft;
+          weights = x .weights;
+        };
+      }) (draftOf s)
+  unfolding draftOf
+  draft-made m bound h count n x l e1 e2 e3 e4 e5 e6 e7 = rw (e7, e6, e5, e4, e3, e2, e1)
+
+  pub too-long : 60000 < length s → refuse PlanTooLong ≡ readPlan s
+  unfolding readPlan
+  too-long h = rw (lt-ltb 60000 (length s) h)
+
+  module _ (h : length s ≤ 60000) (d : Draft) (e : d ≡ draftOf s) where
+    pub faulty : (f : Fault) → d .line ≡ line.Fault f → refuse (refusalOf f) ≡ readPlan s
+    unfolding readPlan answer
+    faulty f k = rw (le-ltb 60000 (length s) h, ← e, k)
+
+    pub faultless : (xs : Numbers) (c : Cursor) → d .line ≡ line.Numbers xs c → weigh (d .plan) ≡ readPlan s
+    unfolding readPlan answer
+    faultless xs c k = rw (le-ltb 60000 (length s) h, ← e, k)
+
+    -- the line of a fault fits a u32
+    pub line-fits : (f : Fault) → d .line ≡ line.Fault f → faultLine f ≤ 4294967295
+    line-fits f k =
+        let m : faultAt (d .line) ≤ length s + 1 = rw e (draft-early s) in
+        let z : faultLine f ≤ length s + 1 = rw k at m in
+        omega arith

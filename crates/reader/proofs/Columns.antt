@@ -1,0 +1,122 @@
+-- Arrays that a block fills line by line. A column is an array whose entries are at most m and which is 0 from index i on; filling
+-- it in order keeps it one, so a block of n lines leaves 0 from n on (`filled`).
+use mathlib.Core.Path.{_≡_, refl, sym, ap, subst, _∙_}
+use mathlib.Core.List.{List, [], _∷_}
+use Prim.Native.Nat.{ℕ, zero, suc, _+_, _-_, _≤_, _<_}
+use native.Mathlib.Omega.{arith}
+use lib.ListN.{set, getD, replicate}
+use lib.Seq.{getD-set-other}
+use Rattle.automata.specs.WellFormed.{Below, ZeroFrom}
+use Rattle.reader.specs.Line.{firstOf, secondOf, thirdOf, fourthOf, lineOfOne, lineOfTwo, lineOfFour}
+use Rattle.reader.specs.Blocks.{repeat, Filling, labelStep, labelBlock, roadStep, roadBlock, moveStep, moveBlock}
+use Rattle.reader.specs.declared.line.Line.{Line}
+use Rattle.reader.specs.declared.line.Line.the-variants as line
+use Rattle.reader.specs.declared.block.LabelBlock.{LabelBlock}
+use Rattle.reader.specs.declared.block.RoadBlock.{RoadBlock}
+use Rattle.reader.specs.declared.block.MoveBlock.{MoveBlock}
+use Rattle.reader.proofs.Judging.{one-first, two-first, two-second, four-first, four-second, four-third, four-fourth}
+
+-- what each line keeps of the block and of the count of lines read, n lines keep
+module _ {B : Type 0} (f : Filling B → Filling B) (Q : ℕ → B → Type 0) (next : (x : Filling B) → f x .next ≡ x .next + 1)
+    (step : (x : Filling B) → Q (x .next) (x .block) → Q (f x .next) (f x .block)) where
+  filled-from : (n : ℕ) (x : Filling B) → Q (x .next) (x .block) → Q (x .next + n) (repeat n f x .block)
+  unfolding repeat
+  filled-from zero x q = let e : x .next ≡ x .next + 0 = omega arith in subst (λ (i : ℕ). Q i (x .block)) e q
+  filled-from (suc n) x q =
+      let e : f x .next + n ≡ x .next + suc n = omega (arith, next x) in
+      subst (λ (i : ℕ). Q i (repeat n f (f x) .block)) e (filled-from n (f x) (step x q))
+
+  pub filled : (n : ℕ) (b : B) → Q 0 b → Q n (repeat n f (record { next = 0; block = b }) .block)
+  filled n b q =
+      let e : 0 + n ≡ n = omega arith in
+      subst (λ (i : ℕ). Q i (repeat n f (record { next = 0; block = b }) .block)) e (filled-from n (record { next = 0; block = b }) q)
+
+pub record Column (m i : ℕ) (xs : List ℕ) : Type 0 where
+  pub low : (k : ℕ) → getD xs k 0 ≤ m
+  pub rest : ZeroFrom i xs
+
+zeros-low : (m n k : ℕ) → getD (replicate n 0) k 0 ≤ m
+zeros-low m zero k = omega arith
+zeros-low m (suc n) zero = omega arith
+zeros-low m (suc n) (suc k) = zeros-low m n k
+
+pub zeros-rest : (n : ℕ) → ZeroFrom 0 (replicate n 0)
+zeros-rest n k h = omega (arith, zeros-low 0 n k)
+
+column-zeros : (m n : ℕ) → Column m 0 (replicate n 0)
+column-zeros m n = record { low = zeros-low m n; rest = zeros-rest n }
+
+set-low : (m : ℕ) (xs : List ℕ) (i x : ℕ) → ((k : ℕ) → getD xs k 0 ≤ m) → x ≤ m → (k : ℕ) → getD (set xs i x) k 0 ≤ m
+set-low m [] i x h l k = h k
+set-low m (y ∷ ys) zero x h l zero = l
+set-low m (y ∷ ys) zero x h l (suc k) = h (suc k)
+set-low m (y ∷ ys) (suc i) x h l zero = h zero
+set-low m (y ∷ ys) (suc i) x h l (suc k) = set-low m ys i x (λ j. h (suc j)) l k
+
+pub set-rest : (xs : List ℕ) (i x : ℕ) → ZeroFrom i xs → ZeroFrom (i + 1) (set xs i x)
+set-rest xs i x h k o =
+    let d : k ≡ i → ⊥ = λ e. omega arith in
+    let l : i ≤ k = omega arith in
+    getD-set-other xs i k x 0 d ∙ h k l
+
+column-set : {m i : ℕ} {xs : List ℕ} (x : ℕ) → Column m i xs → x ≤ m → Column m (i + 1) (set xs i x)
+column-set {m} {i} {xs} x c l = record { low = set-low m xs i x (c .low) l; rest = set-rest xs i x (c .rest) }
+
+pub column-below : (bound i : ℕ) (xs : List ℕ) → 1 ≤ bound → Column (bound - 1) i xs → Below bound xs
+column-below bound i xs o c k = let z = c .low k in omega arith
+
+module _ (s : List ℕ) where
+  pub one-top : (l : Line) (key : List ℕ) (low bound : ℕ) → firstOf (lineOfOne s l key low bound) ≤ bound - 1
+  unfolding lineOfOne
+  one-top (line.Fault f) key low bound = omega arith
+  one-top (line.Numbers xs c) key low bound = one-first s (c .at) low bound _
+
+  two-top : (l : Line) (key : List ℕ) (bound : ℕ) → (firstOf (lineOfTwo s l key bound) ≤ bound - 1) × (secondOf (lineOfTwo s l key bound) ≤ bound - 1)
+  unfolding lineOfTwo
+  two-top (line.Fault f) key bound = (omega arith, omega arith)
+  two-top (line.Numbers xs c) key bound = (two-first s (c .at) bound _ _, two-second s (c .at) bound _ _)
+
+  four-top : (l : Line) (key : List ℕ) (outer inner : ℕ)
+      → (firstOf (lineOfFour s l key outer inner) ≤ outer - 1) × (secondOf (lineOfFour s l key outer inner) ≤ inner - 1)
+      × (thirdOf (lineOfFour s l key outer inner) ≤ inner - 1) × (fourthOf (lineOfFour s l key outer inner) ≤ outer - 1)
+  unfolding lineOfFour
+  four-top (line.Fault f) key outer inner = (omega arith, omega arith, omega arith, omega arith)
+  four-top (line.Numbers xs c) key outer inner =
+      (four-first s (c .at) outer inner _ _ _ _, four-second s (c .at) outer inner _ _ _ _, four-third s (c .at) outer inner _ _ _ _, four-fourth s (c .at) outer inner _ _ _ _)
+
+  pub labels-filled : (l : Line) (n bound : ℕ) → Column (bound - 1) n (labelBlock s l n bound .labels)
+  unfolding labelBlock
+  labels-filled l n bound =
+      filled (labelStep s bound) (λ (i : ℕ) (b : LabelBlock). Column (bound - 1) i (b .labels)) (λ x. refl)
+      (λ x q. column-set _ q (one-top (x .block .line) _ 0 bound))
+      n _ (column-zeros (bound - 1) 128)
+
+  pub record RoadColumns (bound i : ℕ) (b : RoadBlock) : Type 0 where
+    pub from : Column (bound - 1) i (b .from)
+    pub to : Column (bound - 1) i (b .to)
+
+  pub roads-filled : (l : Line) (n bound : ℕ) → RoadColumns bound n (roadBlock s l n bound)
+  unfolding roadBlock
+  roads-filled l n bound =
+      filled (roadStep s bound) (RoadColumns bound) (λ x. refl)
+      (λ x q. let t = two-top (x .block .line) _ bound in record { from = column-set _ (q .from) (t .0); to = column-set _ (q .to) (t .1) })
+      n _ (record { from = column-zeros (bound - 1) 1024; to = column-zeros (bound - 1) 1024 })
+
+  pub record MoveColumns (q labels i : ℕ) (b : MoveBlock) : Type 0 where
+    pub from : Column (q - 1) i (b .from)
+    pub need : Column (labels - 1) i (b .need)
+    pub bar : Column (labels - 1) i (b .bar)
+    pub to : Column (q - 1) i (b .to)
+
+  pub moves-filled : (l : Line) (n q labels : ℕ) → MoveColumns q labels n (moveBlock s l n q labels)
+  unfolding moveBlock
+  moves-filled l n q labels =
+      filled (moveStep s q labels) (MoveColumns q labels) (λ x. refl)
+      (λ x c. let t = four-top (x .block .line) _ q labels in record {
+        from = column-set _ (c .from) (t .0);
+        need = column-set _ (c .need) (t .1);
+        bar = column-set _ (c .bar) (t .2);
+        to = column-set _ (c .to) (t .3);
+      })
+      n _
+      (record { from = column-zeros (q - 1) 64; need = column-zeros (labels - 1) 64; bar = column-zeros (labels - 1) 64; to = column-zeros (q - 1) 64 })

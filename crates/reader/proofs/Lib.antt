@@ -1,0 +1,12 @@
+pub mod Decimals
+pub mod Newlines
+pub mod Judging
+pub mod Filling
+pub mod Steps
+pub mod Sequences
+pub mod Products
+pub mod Sticky
+pub mod Answers
+pub mod Columns
+pub mod Faultless
+pub mod WellRead

@@ -1,0 +1,143 @@
+-- What every line keeps of the line before it, every block keeps, by induction on its count: that there is a fault, and that a
+-- fault's line is at most one above the text's length.
+use mathlib.Core.Path.{_≡_, refl}
+use mathlib.Core.Bool.{Bool, true, false}
+use mathlib.Core.List.{List}
+use Prim.Native.Nat.{ℕ, zero, suc, _+_, _^_, _≤_}
+use native.Mathlib.Omega.{arith}
+use lib.ListN.{length}
+use lib.Dec.{ltb}
+use Rattle.reader.specs.Text.{lineAt}
+use Rattle.reader.specs.Line.{choose, judge, judgeOne, judgeTwo, judgeFour, lineOfOne, lineOfTwo, lineOfFour, firstOf, top, finish}
+use Rattle.reader.specs.Keys.{tourKey, marksKey, placesKey, startKey, roadsKey, firstKey, acceptKey, movesKey, hardKey, rulesKey, softKey, weightKey}
+use Rattle.reader.specs.Blocks.{repeat, Filling, labelStep, labelBlock, roadStep, roadBlock, moveStep, moveBlock, automatonBlock, hardBlock, softBlock, softStep, softBlocks}
+use Rattle.reader.specs.Map.{mapOf}
+use Rattle.reader.specs.Reading.{draftOf}
+use Rattle.reader.specs.Outcome.{faultLine}
+use Rattle.reader.specs.declared.text.Number.{Number}
+use Rattle.reader.specs.declared.text.Number.the-variants.{Value, Bad}
+use Rattle.reader.specs.declared.line.Numbers.{Numbers}
+use Rattle.reader.specs.declared.line.Fault.{Fault}
+use Rattle.reader.specs.declared.line.Fault.the-variants.{Form}
+use Rattle.reader.specs.declared.line.Line.{Line}
+use Rattle.reader.specs.declared.line.Line.the-variants as line
+use Rattle.reader.specs.declared.block.LabelBlock.{LabelBlock}
+use Rattle.reader.specs.declared.block.RoadBlock.{RoadBlock}
+use Rattle.reader.specs.declared.block.MoveBlock.{MoveBlock}
+use Rattle.reader.specs.declared.block.SoftBlocks.{SoftBlocks}
+use Rattle.reader.proofs.Newlines.{line-most}
+
+-- what f keeps, repeating f keeps
+pub repeat-keeps : {S : Type 0} (P : S → Type 0) (f : S → S) → ((x : S) → P x → P (f x)) → (n : ℕ) (x : S) → P x → P (repeat n f x)
+unfolding repeat
+repeat-keeps P f h zero x p = p
+repeat-keeps P f h (suc n) x p = repeat-keeps P f h n (f x) (h x p)
+
+-- P is kept by a line of every kind
+pub record Sticky (s : List ℕ) (P : Line → Type 0) : Type 0 where
+  pub one : (l : Line) (key : List ℕ) (low bound : ℕ) → P l → P (lineOfOne s l key low bound)
+  pub two : (l : Line) (key : List ℕ) (bound : ℕ) → P l → P (lineOfTwo s l key bound)
+  pub four : (l : Line) (key : List ℕ) (outer inner : ℕ) → P l → P (lineOfFour s l key outer inner)
+
+module _ (s : List ℕ) (P : Line → Type 0) (k : Sticky s P) where
+  pub labels-keep : (l : Line) (n bound : ℕ) → P l → P (labelBlock s l n bound .line)
+  unfolding labelBlock
+  labels-keep l n bound = repeat-keeps (λ (x : Filling LabelBlock). P (x .block .line)) (labelStep s bound) (λ x. k .one (x .block .line) _ 0 bound) n _
+
+  pub roads-keep : (l : Line) (n bound : ℕ) → P l → P (roadBlock s l n bound .line)
+  unfolding roadBlock
+  roads-keep l n bound = repeat-keeps (λ (x : Filling RoadBlock). P (x .block .line)) (roadStep s bound) (λ x. k .two (x .block .line) _ bound) n _
+
+  pub moves-keep : (l : Line) (n q labels : ℕ) → P l → P (moveBlock s l n q labels .line)
+  unfolding moveBlock
+  moves-keep l n q labels = repeat-keeps (λ (x : Filling MoveBlock). P (x .block .line)) (moveStep s q labels) (λ x. k .four (x .block .line) _ q labels) n _
+
+  pub automaton-keeps : (l : Line) (q labels : ℕ) → P l → P (automatonBlock s l q labels .line)
+  unfolding automatonBlock
+  automaton-keeps l q labels p =
+      let first = lineOfOne s l firstKey 0 q in
+      let accept = lineOfOne s first acceptKey 0 (2 ^ q) in
+      let count = lineOfOne s accept movesKey 0 65 in
+      moves-keep count (firstOf count) q labels (k .one accept movesKey 0 65 (k .one first acceptKey 0 (2 ^ q) (k .one l firstKey 0 q p)))
+
+  pub hard-keeps : (l : Line) (labels : ℕ) → P l → P (hardBlock s l labels .line)
+  unfolding hardBlock
+  hard-keeps l labels p = automaton-keeps (lineOfOne s l hardKey 1 17) _ labels (k .one l hardKey 1 17 p)
+
+  pub soft-keeps : (l : Line) (labels : ℕ) → P l → P (softBlock s l labels .line)
+  unfolding softBlock
+  soft-keeps l labels p =
+      let states = lineOfOne s l softKey 1 9 in
+      automaton-keeps (lineOfOne s states weightKey 1 4000001) _ labels (k .one states weightKey 1 4000001 (k .one l softKey 1 9 p))
+
+  pub softs-keep : (l : Line) (n labels : ℕ) → P l → P (softBlocks s l n labels .line)
+  unfolding softBlocks
+  softs-keep l n labels = repeat-keeps (λ (x : Filling SoftBlocks). P (x .block .line)) (softStep s labels) (λ x. soft-keeps (x .block .line) labels) n _
+
+-- a fault's line, 0 where there is none
+abbrev pub faultAt : Line → ℕ
+faultAt (line.Numbers xs c) = 0
+faultAt (line.Fault f) = faultLine f
+
+module _ (s : List ℕ) where
+  abbrev Early : Line → Type 0
+  Early l = faultAt l ≤ length s + 1
+
+  judge-early : (at : ℕ) (last : Number) (fit : Bool) (xs : Numbers) → Early (judge s at last fit xs)
+  unfolding judge
+  judge-early at Bad fit xs = line-most s at
+  judge-early at (Value v i) true xs = omega arith
+  judge-early at (Value v i) false xs = line-most s at
+
+  one-early : (l : Line) (key : List ℕ) (low bound : ℕ) → Early l → Early (lineOfOne s l key low bound)
+  unfolding lineOfOne judgeOne
+  one-early (line.Fault f) key low bound p = p
+  one-early (line.Numbers xs c) key low bound p = judge-early (c .at) _ _ _
+
+  two-early : (l : Line) (key : List ℕ) (bound : ℕ) → Early l → Early (lineOfTwo s l key bound)
+  unfolding lineOfTwo judgeTwo
+  two-early (line.Fault f) key bound p = p
+  two-early (line.Numbers xs c) key bound p = judge-early (c .at) _ _ _
+
+  four-early : (l : Line) (key : List ℕ) (outer inner : ℕ) → Early l → Early (lineOfFour s l key outer inner)
+  unfolding lineOfFour judgeFour
+  four-early (line.Fault f) key outer inner p = p
+  four-early (line.Numbers xs c) key outer inner p = judge-early (c .at) _ _ _
+
+  early : Sticky s Early
+  early = record { one = one-early; two = two-early; four = four-early }
+
+  finish-early : (l : Line) → Early l → Early (finish s l)
+  unfolding finish
+  finish-early (line.Fault f) p = p
+  finish-early (line.Numbers xs c) p = by-test (ltb (c .at) (length s))
+    where
+      by-test : (t : Bool) → Early (choose t (line.Fault (Form (lineAt s (c .at)))) (line.Numbers xs c))
+      by-test true = line-most s (c .at)
+      by-test false = omega arith
+
+  map-early : Early (mapOf s .line)
+  unfolding mapOf
+  map-early =
+      let tour = lineOfOne s top tourKey 1 2 in
+      let marks = lineOfOne s tour marksKey 0 9 in
+      let places = lineOfOne s marks placesKey 1 129 in
+      let labels = labelBlock s places (firstOf places) (2 ^ firstOf marks) in
+      let start = lineOfOne s (labels .line) startKey 0 (firstOf places) in
+      let count = lineOfOne s start roadsKey 0 1025 in
+      roads-keep s Early early count (firstOf count) (firstOf places)
+      (one-early start roadsKey 0 1025
+      (one-early (labels .line) startKey 0 (firstOf places)
+      (labels-keep s Early early places (firstOf places) (2 ^ firstOf marks)
+      (one-early marks placesKey 1 129 (one-early tour marksKey 0 9 (one-early top tourKey 1 2 (omega arith)))))))
+
+  -- the fault of a plan file is of one of its lines, or of the line behind them
+  pub draft-early : faultAt (draftOf s .line) ≤ length s + 1
+  unfolding draftOf
+  draft-early =
+      let bound = 2 ^ mapOf s .marks in
+      let hard = hardBlock s (mapOf s .line) bound in
+      let count = lineOfOne s (hard .line) rulesKey 0 9 in
+      finish-early (softBlocks s count (firstOf count) bound .line)
+      (softs-keep s Early early count (firstOf count) bound
+      (one-early (hard .line) rulesKey 0 9 (hard-keeps s Early early (mapOf s .line) bound map-early)))

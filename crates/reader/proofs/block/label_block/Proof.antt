@@ -1,0 +1,78 @@
+-- `label_block` meets its contract. The loop keeps that the labels read so far and the lines still to be read make up the block.
+use mathlib.Core.Path.{_≡_}
+use mathlib.Core.List.{List}
+use Prim.Native.Nat.{ℕ, _-_, _≤_}
+use native.Mathlib.Omega.{arith}
+use Rattle.reader.specs.Blocks.{labelStep, labelBlock}
+use Rattle.reader.specs.declared.line.Line.{Line}
+use Rattle.reader.proofs.Filling.{rest, rest-step, rest-end}
+use Rattle.reader.proofs.Steps.{labelsIn, labels-start, label-step}
+use borrow.Author.Needs.{needs}
+use Rattle.reader.proofs.block.label_block.Statement.{statement}
+use Rattle.reader.proofs.block.label_block.Tie as tie
+
+record Read (s : List ℕ) (n bound : ℕ) (prior line : Line) (labels : List ℕ) (i : ℕ) : Type 0 where
+  pub within : i ≤ n
+  pub room : n ≤ 128
+  pub bytes : bound ≤ 256
+  pub same : labelBlock s prior n bound ≡ rest n (labelStep s bound) i (labelsIn line labels)
+
+abbrev Inv-loop : tie.InvT-loop
+Inv-loop s n bound line₀ labels₀ i₀ t8 line labels i = Read s n bound line₀ line labels i
+
+abbrev μ-loop : tie.MeasureT-loop
+μ-loop s n bound line₀ labels₀ i₀ t8 line labels i = n - i
+
+loop-holds : tie.Need-loop-holds Inv-loop μ-loop
+loop-holds c = record { within = omega arith; room = search needs; bytes = search needs; same = labels-start _ _ _ _ }
+
+slice-aggregate-line-of-one : tie.Need-slice-aggregate-line-of-one Inv-loop μ-loop
+slice-aggregate-line-of-one c = search needs
+
+line-of-one-requires : tie.Need-line-of-one-requires Inv-loop μ-loop
+line-of-one-requires c κs = search needs
+
+first-of-requires : tie.Need-first-of-requires Inv-loop μ-loop
+first-of-requires c κs = search needs
+
+cast-labels : tie.Need-cast-labels Inv-loop μ-loop
+cast-labels c = search needs
+
+array-write-labels : tie.Need-array-write-labels Inv-loop μ-loop
+array-write-labels c = search needs
+
+add-i : tie.Need-add-i Inv-loop μ-loop
+add-i c = search needs
+
+loop-less : tie.Need-loop-less Inv-loop μ-loop
+loop-less c = search needs
+
+loop-again : tie.Need-loop-again Inv-loop μ-loop
+loop-again c =
+    let l = c .before .before .before .before .loop in
+    record {
+      within = omega arith;
+      room = l .inv .room;
+      bytes = l .inv .bytes;
+      same = rest-step _ _ _ _ _ (l .inv .same) (c .before .before .before .loop-test .taken) _ (label-step _ _ _ _ _ (l .labels) _ (c .before .line-of-one .ensures .same) (c .first-of .ensures));
+    }
+
+returns : tie.Need-returns Inv-loop μ-loop
+returns c = rest-end _ _ _ _ _ (c .before .loop .inv .same) (c .loop-test .left)
+
+pub label-block-spec : {M : Type 1} → statement M
+label-block-spec =
+    tie.close
+    (tie.spec
+    Inv-loop
+    μ-loop
+    loop-holds
+    slice-aggregate-line-of-one
+    line-of-one-requires
+    first-of-requires
+    cast-labels
+    array-write-labels
+    add-i
+    loop-less
+    loop-again
+    returns)

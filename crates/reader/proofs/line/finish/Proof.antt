@@ -1,0 +1,31 @@
+-- `finish` meets its contract: each return is one case of its definition.
+use borrow.Author.Tests.{lt-ltb, le-ltb}
+use Rattle.reader.specs.Line.{finish}
+use borrow.Author.Needs.{needs}
+use Rattle.reader.proofs.line.finish.Statement.{statement}
+use Rattle.reader.proofs.line.finish.Tie as tie
+
+enum-known-last : tie.Need-enum-known-last
+enum-known-last c = search needs
+
+enum-told : tie.Need-enum-told
+enum-told c = search needs
+
+returns : tie.Need-returns
+unfolding finish
+returns c = rw (c .enum-told .given .1)
+
+line-at-requires : tie.Need-line-at-requires
+line-at-requires c κs = search needs
+
+returns-2 : tie.Need-returns-2
+unfolding finish
+returns-2 c = rw (c .before .before .before .last .given .1, lt-ltb _ _ (c .before .if1 .taken), c .line-at .ensures)
+
+returns-3 : tie.Need-returns-3
+unfolding finish
+returns-3 c = rw (c .before .before .last .given .1, le-ltb _ _ (c .if1 .left))
+
+pub finish-spec : {M : Type 1} → statement M
+finish-spec =
+    tie.close (tie.spec enum-known-last enum-told returns line-at-requires returns-2 returns-3)

@@ -1,0 +1,53 @@
+-- `line_of_four` meets its contract: a fault is kept, and the parts of a line make up its definition.
+use native.Mathlib.Omega.{arith}
+use Rattle.reader.proofs.Judging.{four-kept, four-read}
+use borrow.Author.Needs.{needs}
+use Rattle.reader.proofs.line.line_of_four.Statement.{statement}
+use Rattle.reader.proofs.line.line_of_four.Tie as tie
+
+enum-known-prior : tie.Need-enum-known-prior
+enum-known-prior c = search needs
+
+enum-told : tie.Need-enum-told
+enum-told c = search needs
+
+returns : tie.Need-returns
+returns c = four-kept _ _ _ _ _ _ (c .enum-told .given .1)
+
+key-at-requires : tie.Need-key-at-requires
+key-at-requires c κs = search needs
+
+after-requires : tie.Need-after-requires
+after-requires c κs = search needs
+
+after-requires-2 : tie.Need-after-requires-2
+after-requires-2 c κs = search needs
+
+after-requires-3 : tie.Need-after-requires-3
+after-requires-3 c κs = search needs
+
+after-requires-4 : tie.Need-after-requires-4
+after-requires-4 c κs = search needs
+
+judge-four-requires : tie.Need-judge-four-requires
+judge-four-requires c κs = search needs
+
+returns-2 : tie.Need-returns-2
+returns-2 c =
+    four-read _ _ _ _ _ _ _ (omega (arith, c .before .before .before .before .before .before .before .before .before .before .before .fits)) (omega (arith, c .before .before .before .before .before .before .before .before .before .before .before .fits)) (c .before .before .before .before .before .before .before .prior .given .1) _ _ _ _ _ _ (c .before .before .before .before .before .key-at .ensures) (c .before .before .before .before .after .ensures) (c .before .before .before .after2 .ensures)
+    (c .before .before .after3 .ensures) (c .before .after4 .ensures) (c .judge-four .ensures)
+
+pub line-of-four-spec : {M : Type 1} → statement M
+line-of-four-spec =
+    tie.close
+    (tie.spec
+    enum-known-prior
+    enum-told
+    returns
+    key-at-requires
+    after-requires
+    after-requires-2
+    after-requires-3
+    after-requires-4
+    judge-four-requires
+    returns-2)

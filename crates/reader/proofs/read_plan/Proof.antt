@@ -1,0 +1,52 @@
+-- `read_plan` meets its contract: each return is one case of its definition.
+use mathlib.Core.Path.{_∙_}
+use Rattle.reader.proofs.Answers.{too-long, faulty, faultless, line-fits}
+use borrow.Author.Needs.{needs}
+use Rattle.reader.proofs.read_plan.Statement.{statement}
+use Rattle.reader.proofs.read_plan.Tie as tie
+
+refuse-requires : tie.Need-refuse-requires
+refuse-requires c κs = search needs
+
+returns : tie.Need-returns
+returns c = c .refuse .ensures ∙ too-long _ (c .before .if1 .taken)
+
+read-lines-requires : tie.Need-read-lines-requires
+read-lines-requires c κs = search needs
+
+enum-known-line : tie.Need-enum-known-line
+enum-known-line c = search needs
+
+enum-told : tie.Need-enum-told
+enum-told c = search needs
+
+weigh-requires : tie.Need-weigh-requires
+weigh-requires c κs = search needs
+
+returns-2 : tie.Need-returns-2
+returns-2 c = c .weigh .ensures ∙ faultless _ (c .before .before .before .before .before .if1 .left) _ (c .before .before .before .before .read-lines .ensures .same) _ _ (c .before .enum-told .given .1)
+
+refusal-of-requires : tie.Need-refusal-of-requires
+refusal-of-requires c κs = line-fits _ (c .before .before .before .before .before .if1 .left) _ (c .before .before .before .before .read-lines .ensures .same) _ (c .before .line .given .1)
+
+refuse-requires-2 : tie.Need-refuse-requires-2
+refuse-requires-2 c κs = search needs
+
+returns-3 : tie.Need-returns-3
+returns-3 c =
+    c .refuse2 .ensures ∙ rw (c .before .refusal-of .ensures) (faulty _ (c .before .before .before .before .before .before .before .if1 .left) _ (c .before .before .before .before .before .before .read-lines .ensures .same) _ (c .before .before .before .line .given .1))
+
+pub read-plan-spec : {M : Type 1} → statement M
+read-plan-spec =
+    tie.close
+    (tie.spec
+    refuse-requires
+    returns
+    read-lines-requires
+    enum-known-line
+    enum-told
+    weigh-requires
+    returns-2
+    refusal-of-requires
+    refuse-requires-2
+    returns-3)

@@ -1,0 +1,106 @@
+-- `held_size` meets its contract. The loop keeps that n is the product of the factors passed, held at 2,049.
+use mathlib.Core.Path.{_≡_, refl, ap, _∙_}
+use mathlib.Core.List.{List}
+use Prim.Native.Nat.{ℕ, _+_, _-_, _*_, _≤_, min}
+use native.Mathlib.Omega.{arith}
+use lib.ListN.{getD}
+use Rattle.automata.specs.declared.Automaton.{Automaton}
+use Rattle.automata.specs.WellFormed.{noAutomaton}
+use Rattle.plan.specs.Size.{productBelow}
+use Rattle.plan.specs.WellFormed.{soft}
+use Rattle.reader.proofs.Products.{product-none, product-more, size-whole, states-default}
+use borrow.Author.Needs.{needs}
+use Rattle.reader.proofs.size.held_size.Statement.{statement}
+use Rattle.reader.proofs.size.held_size.Tie as tie
+
+record Grown (rules n₀ : ℕ) (soft : List Automaton) (n i : ℕ) : Type 0 where
+  pub within : i ≤ rules
+  pub room : rules ≤ 8
+  pub small : n ≤ 2049
+  pub held : n ≡ min (n₀ * productBelow i (λ k. getD soft k noAutomaton .states + 1)) 2049
+
+abbrev Inv-loop : tie.InvT-loop
+Inv-loop rules n₀ soft i₀ n i = Grown rules n₀ soft n i
+
+abbrev μ-loop : tie.MeasureT-loop
+μ-loop rules n₀ soft i₀ n i = rules - i
+
+cast-rules : tie.Need-cast-rules Inv-loop μ-loop
+cast-rules c = search needs
+
+wide-requires : tie.Need-wide-requires Inv-loop μ-loop
+wide-requires c κs = search needs
+
+grown-requires : tie.Need-grown-requires Inv-loop μ-loop
+grown-requires c κs = search needs
+
+wide-requires-2 : tie.Need-wide-requires-2 Inv-loop μ-loop
+wide-requires-2 c κs = search needs
+
+grown-requires-2 : tie.Need-grown-requires-2 Inv-loop μ-loop
+grown-requires-2 c κs = search needs
+
+loop-holds : tie.Need-loop-holds Inv-loop μ-loop
+loop-holds c = record { within = omega arith; room = c .before .before .before .before .before .before .before .pre; small = c .before .grown2 .ensures .1; held = product-none 2049 _ _ (c .before .grown2 .ensures .1) }
+
+mul-a : tie.Need-mul-a Inv-loop μ-loop
+mul-a c = search needs
+
+array-copy-out-a : tie.Need-array-copy-out-a Inv-loop μ-loop
+array-copy-out-a c = search needs
+
+wide-requires-3 : tie.Need-wide-requires-3 Inv-loop μ-loop
+wide-requires-3 c κs = search needs
+
+add-grown : tie.Need-add-grown Inv-loop μ-loop
+add-grown c = search needs
+
+grown-requires-3 : tie.Need-grown-requires-3 Inv-loop μ-loop
+grown-requires-3 c κs = search needs
+
+add-i : tie.Need-add-i Inv-loop μ-loop
+add-i c = search needs
+
+loop-less : tie.Need-loop-less Inv-loop μ-loop
+loop-less c = search needs
+
+loop-again : tie.Need-loop-again Inv-loop μ-loop
+loop-again c =
+    let l = c .before .before .before .before .loop in
+    record {
+      within = omega arith;
+      room = l .inv .room;
+      small = c .grown3 .ensures .1;
+      held = product-more 2049 _ _ _ _ _ _ (l .inv .held) (ap (λ (q : ℕ). q + 1) (c .before .wide3 .ensures .0 ∙ states-default (c .before .before .before .before .before .before .before .before .before .before .before .before .args .plan .soft) (l .i) _ noAutomaton refl)) (c .grown3 .ensures .0);
+    }
+
+returns : tie.Need-returns Inv-loop μ-loop
+returns c =
+    let l = c .before .loop in
+    let p = c .before .before .before .before .before .before .before .before .before .args .plan in
+    let e : l .i ≡ p .rules = omega (arith, l .inv .within, c .loop-test .left) in
+    size-whole 2049 p (c .before .before .before .before .before .grown .result) (c .before .before .before .grown2 .result) (l .n) (c .before .before .before .before .before .grown .ensures .0 ∙ ap (λ (x : ℕ). min (1 * x) 2049) (c .before .before .before .before .before .before .wide .ensures .0))
+    (c .before .before .before .grown2 .ensures .0 ∙ ap (λ (x : ℕ). min (c .before .before .before .before .before .grown .result * x) 2049) (c .before .before .before .before .wide2 .ensures .0))
+    (l .inv .held ∙ ap (λ (k : ℕ). min (c .before .before .before .grown2 .result * productBelow k (λ i. soft p i .states + 1)) 2049) e)
+
+pub held-size-spec : {M : Type 1} → statement M
+held-size-spec =
+    tie.close
+    (tie.spec
+    Inv-loop
+    μ-loop
+    cast-rules
+    wide-requires
+    grown-requires
+    wide-requires-2
+    grown-requires-2
+    loop-holds
+    mul-a
+    array-copy-out-a
+    wide-requires-3
+    add-grown
+    grown-requires-3
+    add-i
+    loop-less
+    loop-again
+    returns)

@@ -1,0 +1,120 @@
+-- Blocks of lines (01, "The plan file"). What an array has room for beyond the lines that are read is 0.
+--   repeat n f x                    == f, n times, from x on
+--   Filling B                       == a block B in reading, with the index that the next line's numbers go to
+--   labelBlock s prior n bound      == n lines `label=L`, each L below bound
+--   roadBlock s prior n bound       == n lines `road=A,B`, both below bound
+--   moveBlock s prior n q labels    == n lines `move=q,need,bar,r` of an automaton of q states, need and bar below labels
+--   automatonBlock s prior q labels == first, accept, moves=T and T move lines of an automaton of q states
+--   hardBlock s prior labels        == hard=Q and its automaton
+--   softBlock s prior labels        == soft=Q, weight=W and its automaton
+--   softBlocks s prior n labels     == n soft rules
+use mathlib.Core.List.{List}
+use Prim.Native.Nat.{ℕ, zero, suc, _+_, _^_}
+use lib.ListN.{set, replicate}
+use Rattle.automata.specs.WellFormed.{noAutomaton}
+use Rattle.reader.specs.Keys.{labelKey, roadKey, moveKey, firstKey, acceptKey, movesKey, hardKey, softKey, weightKey}
+use Rattle.reader.specs.Line.{lineOfOne, lineOfTwo, lineOfFour, firstOf, secondOf, thirdOf, fourthOf}
+use Rattle.reader.specs.declared.line.Line.{Line}
+use Rattle.reader.specs.declared.block.LabelBlock.{LabelBlock}
+use Rattle.reader.specs.declared.block.RoadBlock.{RoadBlock}
+use Rattle.reader.specs.declared.block.MoveBlock.{MoveBlock}
+use Rattle.reader.specs.declared.block.AutomatonBlock.{AutomatonBlock}
+use Rattle.reader.specs.declared.block.SoftBlock.{SoftBlock}
+use Rattle.reader.specs.declared.block.SoftBlocks.{SoftBlocks}
+
+unfoldable pub repeat : {S : Type 0} → ℕ → (S → S) → S → S
+repeat zero f x = x
+repeat (suc n) f x = repeat n f (f x)
+
+pub record Filling (B : Type 0) : Type 0 where
+  pub next : ℕ
+  pub block : B
+
+abbrev pub labelStep : List ℕ → ℕ → Filling LabelBlock → Filling LabelBlock
+labelStep s bound x =
+    let l = lineOfOne s (x .block .line) labelKey 0 bound in
+    record { next = x .next + 1; block = record { line = l; labels = set (x .block .labels) (x .next) (firstOf l) } }
+
+unfoldable pub labelBlock : List ℕ → Line → ℕ → ℕ → LabelBlock
+labelBlock s prior n bound =
+    repeat n (labelStep s bound) (record { next = 0; block = record { line = prior; labels = replicate 128 0 } }) .block
+
+abbrev pub roadStep : List ℕ → ℕ → Filling RoadBlock → Filling RoadBlock
+roadStep s bound x =
+    let l = lineOfTwo s (x .block .line) roadKey bound in
+    record {
+      next = x .next + 1;
+      block = record { line = l; from = set (x .block .from) (x .next) (firstOf l); to = set (x .block .to) (x .next) (secondOf l) };
+    }
+
+unfoldable pub roadBlock : List ℕ → Line → ℕ → ℕ → RoadBlock
+roadBlock s prior n bound =
+    repeat n (roadStep s bound) (record { next = 0; block = record { line = prior; from = replicate 1024 0; to = replicate 1024 0 } }) .block
+
+abbrev pub moveStep : List ℕ → ℕ → ℕ → Filling MoveBlock → Filling MoveBlock
+moveStep s q labels x =
+    let l = lineOfFour s (x .block .line) moveKey q labels in
+    record {
+      next = x .next + 1;
+      block = record {
+        line = l;
+        from = set (x .block .from) (x .next) (firstOf l);
+        need = set (x .block .need) (x .next) (secondOf l);
+        bar = set (x .block .bar) (x .next) (thirdOf l);
+        to = set (x .block .to) (x .next) (fourthOf l);
+      };
+    }
+
+unfoldable pub moveBlock : List ℕ → Line → ℕ → ℕ → ℕ → MoveBlock
+moveBlock s prior n q labels =
+    let zeros : List ℕ = replicate 64 0 in
+    repeat n (moveStep s q labels) (record { next = 0; block = record { line = prior; from = zeros; need = zeros; bar = zeros; to = zeros } }) .block
+
+unfoldable pub automatonBlock : List ℕ → Line → ℕ → ℕ → AutomatonBlock
+automatonBlock s prior q labels =
+    let first = lineOfOne s prior firstKey 0 q in
+    let accept = lineOfOne s first acceptKey 0 (2 ^ q) in
+    let count = lineOfOne s accept movesKey 0 65 in
+    let x = moveBlock s count (firstOf count) q labels in
+    record {
+      line = x .line;
+      automaton = record {
+        states = q;
+        first = firstOf first;
+        accept = firstOf accept;
+        moves = firstOf count;
+        from = x .from;
+        need = x .need;
+        bar = x .bar;
+        to = x .to;
+      };
+    }
+
+unfoldable pub hardBlock : List ℕ → Line → ℕ → AutomatonBlock
+hardBlock s prior labels =
+    let states = lineOfOne s prior hardKey 1 17 in
+    automatonBlock s states (firstOf states) labels
+
+unfoldable pub softBlock : List ℕ → Line → ℕ → SoftBlock
+softBlock s prior labels =
+    let states = lineOfOne s prior softKey 1 9 in
+    let weight = lineOfOne s states weightKey 1 4000001 in
+    let x = automatonBlock s weight (firstOf states) labels in
+    record { line = x .line; automaton = x .automaton; weight = firstOf weight }
+
+abbrev pub softStep : List ℕ → ℕ → Filling SoftBlocks → Filling SoftBlocks
+softStep s labels x =
+    let b = softBlock s (x .block .line) labels in
+    record {
+      next = x .next + 1;
+      block = record {
+        line = b .line;
+        soft = set (x .block .soft) (x .next) (b .automaton);
+        weights = set (x .block .weights) (x .next) (b .weight);
+      };
+    }
+
+unfoldable pub softBlocks : List ℕ → Line → ℕ → ℕ → SoftBlocks
+softBlocks s prior n labels =
+    repeat n (softStep s labels)
+    (record { next = 0; block = record { line = prior; soft = replicate 8 noAutomaton; weights = replicate 8 0 } }) .block

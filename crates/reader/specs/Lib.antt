@@ -1,0 +1,7 @@
+pub mod Text
+pub mod Line
+pub mod Keys
+pub mod Blocks
+pub mod Map
+pub mod Outcome
+pub mod Reading

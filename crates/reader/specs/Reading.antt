@@ -1,0 +1,79 @@
+-- The whole plan file (01, "The plan file" and "Why a plan is turned away").
+--   draftOf s         == what all lines of s come to: the last of them or the first fault, and the plan that they make
+--   DraftRead given r == r is the draft `given`; it has at most 8 soft rules
+--   refusalOf f       == the refusal that a line's fault comes to
+--   refuse r          == the answer that turns a plan away: the cause, and an empty plan
+--   weigh p           == the plan p, unless its product is too large
+--   readPlan s        == the answer to the plan file s: its length is judged before its lines, its lines before its size
+use mathlib.Core.Path.{_≡_}
+use mathlib.Core.Bool.{Bool, true, false}
+use mathlib.Core.List.{List}
+use Prim.Native.Nat.{ℕ, _^_, _≤_}
+use lib.ListN.{length}
+use lib.Dec.{ltb}
+use Rattle.plan.specs.Size.{size}
+use Rattle.plan.specs.WellFormed.{noPlan}
+use Rattle.plan.specs.declared.Plan.{Plan}
+use Rattle.plan.specs.declared.Refusal.{Refusal}
+use Rattle.plan.specs.declared.Refusal.the-variants as refusal
+use Rattle.reader.specs.Keys.{rulesKey}
+use Rattle.reader.specs.Line.{lineOfOne, firstOf, finish}
+use Rattle.reader.specs.Blocks.{hardBlock, softBlocks}
+use Rattle.reader.specs.Map.{mapOf}
+use Rattle.reader.specs.declared.line.Fault.{Fault}
+use Rattle.reader.specs.declared.line.Fault.the-variants.{Form, Range}
+use Rattle.reader.specs.declared.line.Line.{Line}
+use Rattle.reader.specs.declared.line.Line.the-variants as line
+use Rattle.reader.specs.declared.Draft.{Draft}
+use Rattle.reader.specs.declared.Outcome.the-variants as outcome
+use Rattle.reader.specs.declared.Reading.{Reading}
+
+unfoldable pub draftOf : List ℕ → Draft
+draftOf s =
+    let m = mapOf s in
+    let bound = 2 ^ m .marks in
+    let h = hardBlock s (m .line) bound in
+    let count = lineOfOne s (h .line) rulesKey 0 9 in
+    let x = softBlocks s count (firstOf count) bound in
+    record {
+      line = finish s (x .line);
+      plan = record {
+        marks = m .marks;
+        places = m .places;
+        start = m .start;
+        roads = m .roads;
+        rules = firstOf count;
+        labels = m .labels;
+        from = m .from;
+        to = m .to;
+        hard = h .automaton;
+        soft = x .soft;
+        weights = x .weights;
+      };
+    }
+
+pub record DraftRead (given r : Draft) : Type 0 where
+  pub same : r ≡ given
+  pub rules : r .plan .rules ≤ 8
+
+unfoldable pub refusalOf : Fault → Refusal
+refusalOf (Form n) = refusal.Form n
+refusalOf (Range n) = refusal.Range n
+
+abbrev pub refuse : Refusal → Reading
+refuse r = record { outcome = outcome.Refused r; plan = noPlan }
+
+-- the first answer if t, the second if not
+abbrev pub choose : Bool → Reading → Reading → Reading
+choose true a b = a
+choose false a b = b
+
+unfoldable pub weigh : Plan → Reading
+weigh p = choose (ltb 2048 (size p)) (refuse refusal.ProductTooLarge) (record { outcome = outcome.Plan; plan = p })
+
+unfoldable pub answer : Line → Plan → Reading
+answer (line.Fault f) p = refuse (refusalOf f)
+answer (line.Numbers xs c) p = weigh p
+
+unfoldable pub readPlan : List ℕ → Reading
+readPlan s = choose (ltb 60000 (length s)) (refuse refusal.PlanTooLong) (answer (draftOf s .line) (draftOf s .plan))
