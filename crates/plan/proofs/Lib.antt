@@ -4,3 +4,4 @@ pub mod Ties
 pub mod Keys
 pub mod Tours
 pub mod Charging
+pub mod Counts

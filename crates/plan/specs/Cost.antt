@@ -6,6 +6,7 @@
 --   cost p k              == that of the rules of p
 --   First n k k′          == the first of n rules on which k and k′ differ is in k
 --   Better p k k′         == k costs less than k′, or the same and keeps the first rule on which they differ
+--   Counted P n c         == c of the numbers below n have the property P
 --   Best p k              == no tour that the hard rule accepts, of any lengths, keeps a set better than k (demand 3)
 use mathlib.Core.Path.{_≡_}
 use mathlib.Core.Bool.{Bool, true, false, cond}
@@ -52,3 +53,8 @@ abbrev pub Best : Plan → ℕ → Type 0
 Best p k =
     (stem cycle : List ℕ) → IsLasso p stem cycle → Hard p stem cycle → (k′ : ℕ) → k′ < 2 ^ p .rules
     → ((i : ℕ) → i < p .rules → keeps k′ i ≡ true → Soft p stem cycle i) → (k ≡ k′) ⊎ Better p k k′
+
+pub data Counted (P : ℕ → Type 0) : ℕ → ℕ → Type 0 where
+  none : Counted P 0 0
+  one : {n c : ℕ} → P n → Counted P n c → Counted P (suc n) (suc c)
+  skip : {n c : ℕ} → (P n → ⊥) → Counted P n c → Counted P (suc n) c

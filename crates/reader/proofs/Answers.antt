@@ -15,7 +15,7 @@ use Rattle.reader.specs.Line.{lineOfOne, firstOf, finish}
 use Rattle.reader.specs.Blocks.{hardBlock, softBlocks}
 use Rattle.reader.specs.Map.{mapOf}
 use Rattle.reader.specs.Outcome.{faultNumber, faultLine}
-use Rattle.reader.specs.Reading.{draftOf, refusalOf, refuse, weigh, answer, readPlan}
+use Rattle.reader.specs.Reading.{draftOf, refusalOf, refuse, admit, answer, readPlan}
 use Rattle.reader.specs.declared.line.Numbers.{Numbers}
 use Rattle.reader.specs.declared.line.Cursor.{Cursor}
 use Rattle.reader.specs.declared.line.Fault.{Fault}
@@ -42,12 +42,12 @@ same-line (Form n) = refl
 same-line (Range n) = refl
 
 module _ (p : Plan) where
-  pub too-large : (n : ℕ) → n ≡ min (size p) 2049 → 2048 < n → refuse ProductTooLarge ≡ weigh p
-  unfolding weigh
+  pub too-large : (n : ℕ) → n ≡ min (size p) 2049 → 2048 < n → refuse ProductTooLarge ≡ admit p
+  unfolding admit
   too-large n e h = let k : 2048 < size p = omega arith in rw (lt-ltb 2048 (size p) k)
 
-  pub small-enough : (n : ℕ) → n ≡ min (size p) 2049 → n ≤ 2048 → _≡_ {A = Reading} (record { outcome = outcome.Plan; plan = p }) (weigh p)
-  unfolding weigh
+  pub small-enough : (n : ℕ) → n ≡ min (size p) 2049 → n ≤ 2048 → _≡_ {A = Reading} (record { outcome = outcome.Plan; plan = p }) (admit p)
+  unfolding admit
   small-enough n e h = let k : size p ≤ 2048 = omega arith in rw (le-ltb 2048 (size p) k)
 
 module _ (s : List ℕ) where
@@ -82,7 +82,7 @@ module _ (s : List ℕ) where
     unfolding readPlan answer
     faulty f k = rw (le-ltb 60000 (length s) h, ← e, k)
 
-    pub faultless : (xs : Numbers) (c : Cursor) → d .line ≡ line.Numbers xs c → weigh (d .plan) ≡ readPlan s
+    pub faultless : (xs : Numbers) (c : Cursor) → d .line ≡ line.Numbers xs c → admit (d .plan) ≡ readPlan s
     unfolding readPlan answer
     faultless xs c k = rw (le-ltb 60000 (length s) h, ← e, k)
 

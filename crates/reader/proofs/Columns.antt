@@ -1,8 +1,8 @@
 -- Arrays that a block fills line by line. A column is an array whose entries are at most m and which is 0 from index i on; filling
 -- it in order keeps it one, so a block of n lines leaves 0 from n on (`filled`).
-use mathlib.Core.Path.{_≡_, refl, sym, ap, subst, _∙_}
+use mathlib.Core.Path.{_≡_, refl, subst, _∙_}
 use mathlib.Core.List.{List, [], _∷_}
-use Prim.Native.Nat.{ℕ, zero, suc, _+_, _-_, _≤_, _<_}
+use Prim.Native.Nat.{ℕ, zero, suc, _+_, _-_, _≤_}
 use native.Mathlib.Omega.{arith}
 use lib.ListN.{set, getD, replicate}
 use lib.Seq.{getD-set-other}
@@ -66,7 +66,7 @@ pub column-below : (bound i : ℕ) (xs : List ℕ) → 1 ≤ bound → Column (b
 column-below bound i xs o c k = let z = c .low k in omega arith
 
 module _ (s : List ℕ) where
-  pub one-top : (l : Line) (key : List ℕ) (low bound : ℕ) → firstOf (lineOfOne s l key low bound) ≤ bound - 1
+  one-top : (l : Line) (key : List ℕ) (low bound : ℕ) → firstOf (lineOfOne s l key low bound) ≤ bound - 1
   unfolding lineOfOne
   one-top (line.Fault f) key low bound = omega arith
   one-top (line.Numbers xs c) key low bound = one-first s (c .at) low bound _
@@ -82,7 +82,8 @@ module _ (s : List ℕ) where
   unfolding lineOfFour
   four-top (line.Fault f) key outer inner = (omega arith, omega arith, omega arith, omega arith)
   four-top (line.Numbers xs c) key outer inner =
-      (four-first s (c .at) outer inner _ _ _ _, four-second s (c .at) outer inner _ _ _ _, four-third s (c .at) outer inner _ _ _ _, four-fourth s (c .at) outer inner _ _ _ _)
+      let at = c .at in
+      (four-first s at outer inner _ _ _ _, four-second s at outer inner _ _ _ _, four-third s at outer inner _ _ _ _, four-fourth s at outer inner _ _ _ _)
 
   pub labels-filled : (l : Line) (n bound : ℕ) → Column (bound - 1) n (labelBlock s l n bound .labels)
   unfolding labelBlock

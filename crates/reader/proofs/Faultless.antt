@@ -6,12 +6,12 @@ use mathlib.Core.List.{List}
 use Prim.Native.Nat.{ℕ, zero, suc, _+_, _^_, _≤_, _<_}
 use native.Mathlib.Omega.{arith}
 use native.Mathlib.Decide.{ℕ-discrete}
-use lib.ListN.{length, set, getD, replicate, length-set}
+use lib.ListN.{length, getD, replicate, length-set}
 use lib.Seq.{getD-set-same, getD-set-other}
 use Rattle.automata.specs.WellFormed as automaton
 use Rattle.automata.specs.WellFormed.{ZeroFrom, noAutomaton}
 use Rattle.automata.specs.declared.Automaton.{Automaton}
-use Rattle.reader.specs.Line.{within, judge, judgeOne, lineOfOne, lineOfTwo, lineOfFour, firstOf, finish}
+use Rattle.reader.specs.Line.{judge, judgeOne, lineOfOne, lineOfTwo, lineOfFour, firstOf, finish}
 use Rattle.reader.specs.Keys.{firstKey, acceptKey, movesKey, hardKey, softKey, weightKey}
 use Rattle.reader.specs.Blocks.{Filling, moveBlock, automatonBlock, hardBlock, softBlock, softStep, softBlocks}
 use Rattle.reader.specs.Text.{after, keyAt}
@@ -22,8 +22,8 @@ use Rattle.reader.specs.declared.line.Line.{Line}
 use Rattle.reader.specs.declared.line.Line.the-variants as line
 use Rattle.reader.specs.declared.block.SoftBlocks.{SoftBlocks}
 use Rattle.reader.proofs.Judging.{within-both}
-use Rattle.reader.proofs.Sticky.{Sticky, moves-keep, automaton-keeps, soft-keeps, softs-keep}
-use Rattle.reader.proofs.Columns.{filled, column-below, set-rest, zeros-rest, MoveColumns, moves-filled}
+use Rattle.reader.proofs.Sticky.{Sticky, moves-keep, soft-keeps}
+use Rattle.reader.proofs.Columns.{filled, column-below, set-rest, zeros-rest, moves-filled}
 
 abbrev pub good : Line → Bool
 good (line.Numbers xs c) = true

@@ -1,5 +1,5 @@
 -- The loops that read a block, at once for every kind of line: what is left to read, from i lines on, is the whole.
-use mathlib.Core.Path.{_≡_, refl, sym, ap, _∙_}
+use mathlib.Core.Path.{_≡_, sym, ap, _∙_}
 use Prim.Native.Nat.{ℕ, suc, _+_, _-_, _≤_, _<_}
 use native.Mathlib.Omega.{arith}
 use Rattle.reader.specs.Blocks.{repeat, Filling}

@@ -1,7 +1,7 @@
 -- What a line's definition gives its reader. Where the code holds a value at 2^32 - 1, the definition has the exact one: a
 -- range test with a bound of at most 2^32 - 1 does not tell the two apart, and a number that passes it was not held, so the
 -- line is the same (`judge-one-cap` and its like). And the numbers of a line are below their bounds, since those of a fault are 0.
-use mathlib.Core.Path.{_≡_, refl, sym, ap, _∙_}
+use mathlib.Core.Path.{_≡_, refl, _∙_}
 use mathlib.Core.Bool.{Bool, true, false, cond}
 use mathlib.Core.List.{List}
 use Prim.Native.Nat.{ℕ, _-_, _≤_, _<_, min}
@@ -100,7 +100,17 @@ module _ (s : List ℕ) (at : ℕ) where
       let z = valueOf c in
       let w = valueOf d in
       let ends = both (within x 0 outer) (within w 0 outer) in
-      rw (judge-cap d, value-cap a, value-cap b, value-cap c, value-cap d, within-held 4294967295 x 0 outer h, within-held 4294967295 w 0 outer h, within-held 4294967295 y 0 inner k, within-held 4294967295 z 0 inner k)
+      rw (
+        judge-cap d,
+        value-cap a,
+        value-cap b,
+        value-cap c,
+        value-cap d,
+        within-held 4294967295 x 0 outer h,
+        within-held 4294967295 w 0 outer h,
+        within-held 4294967295 y 0 inner k,
+        within-held 4294967295 z 0 inner k,
+      )
       (judge-numbers d _ _ _
       (λ e. rw (
         held-within 4294967295 x 0 outer h (both-left _ _ (both-left _ _ e)),
@@ -127,16 +137,22 @@ within-low x low bound e = omega (arith, within-both x low bound e .1)
 module _ (s : List ℕ) (at low bound : ℕ) (a : Number) where
   pub one-first : firstOf (judgeOne s at low bound a) ≤ bound - 1
   unfolding judgeOne
-  one-first = judged s at (Low bound) (λ (ys : Numbers). ys .first) firstOf a _ _ (λ ys c. refl) (λ e. refl) (omega arith) (within-low _ low bound)
+  one-first =
+      judged s at (Low bound) (λ (ys : Numbers). ys .first) firstOf a _ _ (λ ys c. refl) (λ e. refl) (omega arith)
+      (within-low _ low bound)
 
 module _ (s : List ℕ) (at bound : ℕ) (a b : Number) where
   pub two-first : firstOf (judgeTwo s at bound a b) ≤ bound - 1
   unfolding judgeTwo
-  two-first = judged s at (Low bound) (λ (ys : Numbers). ys .first) firstOf b _ _ (λ ys c. refl) (λ e. refl) (omega arith) (λ h. within-low _ 0 bound (both-left _ _ h))
+  two-first =
+      judged s at (Low bound) (λ (ys : Numbers). ys .first) firstOf b _ _ (λ ys c. refl) (λ e. refl) (omega arith)
+      (λ h. within-low _ 0 bound (both-left _ _ h))
 
   pub two-second : secondOf (judgeTwo s at bound a b) ≤ bound - 1
   unfolding judgeTwo
-  two-second = judged s at (Low bound) (λ (ys : Numbers). ys .second) secondOf b _ _ (λ ys c. refl) (λ e. refl) (omega arith) (λ h. within-low _ 0 bound (both-right (within (valueOf a) 0 bound) _ h))
+  two-second =
+      judged s at (Low bound) (λ (ys : Numbers). ys .second) secondOf b _ _ (λ ys c. refl) (λ e. refl) (omega arith)
+      (λ h. within-low _ 0 bound (both-right (within (valueOf a) 0 bound) _ h))
 
 module _ (s : List ℕ) (at outer inner : ℕ) (a b c d : Number) where
   abbrev ends : Bool
@@ -144,19 +160,27 @@ module _ (s : List ℕ) (at outer inner : ℕ) (a b c d : Number) where
 
   pub four-first : firstOf (judgeFour s at outer inner a b c d) ≤ outer - 1
   unfolding judgeFour
-  four-first = judged s at (Low outer) (λ (ys : Numbers). ys .first) firstOf d _ _ (λ ys c. refl) (λ e. refl) (omega arith) (λ h. within-low _ 0 outer (both-left _ _ (both-left _ _ h)))
+  four-first =
+      judged s at (Low outer) (λ (ys : Numbers). ys .first) firstOf d _ _ (λ ys c. refl) (λ e. refl) (omega arith)
+      (λ h. within-low _ 0 outer (both-left _ _ (both-left _ _ h)))
 
   pub four-second : secondOf (judgeFour s at outer inner a b c d) ≤ inner - 1
   unfolding judgeFour
-  four-second = judged s at (Low inner) (λ (ys : Numbers). ys .second) secondOf d _ _ (λ ys c. refl) (λ e. refl) (omega arith) (λ h. within-low _ 0 inner (both-left _ _ (both-right ends _ h)))
+  four-second =
+      judged s at (Low inner) (λ (ys : Numbers). ys .second) secondOf d _ _ (λ ys c. refl) (λ e. refl) (omega arith)
+      (λ h. within-low _ 0 inner (both-left _ _ (both-right ends _ h)))
 
   pub four-third : thirdOf (judgeFour s at outer inner a b c d) ≤ inner - 1
   unfolding judgeFour
-  four-third = judged s at (Low inner) (λ (ys : Numbers). ys .third) thirdOf d _ _ (λ ys c. refl) (λ e. refl) (omega arith) (λ h. within-low _ 0 inner (both-right (within (valueOf b) 0 inner) _ (both-right ends _ h)))
+  four-third =
+      judged s at (Low inner) (λ (ys : Numbers). ys .third) thirdOf d _ _ (λ ys c. refl) (λ e. refl) (omega arith)
+      (λ h. within-low _ 0 inner (both-right (within (valueOf b) 0 inner) _ (both-right ends _ h)))
 
   pub four-fourth : fourthOf (judgeFour s at outer inner a b c d) ≤ outer - 1
   unfolding judgeFour
-  four-fourth = judged s at (Low outer) (λ (ys : Numbers). ys .fourth) fourthOf d _ _ (λ ys c. refl) (λ e. refl) (omega arith) (λ h. within-low _ 0 outer (both-right (within (valueOf a) 0 outer) _ (both-left _ _ h)))
+  four-fourth =
+      judged s at (Low outer) (λ (ys : Numbers). ys .fourth) fourthOf d _ _ (λ ys c. refl) (λ e. refl) (omega arith)
+      (λ h. within-low _ 0 outer (both-right (within (valueOf a) 0 outer) _ (both-left _ _ h)))
 
 -- a line behind a fault, and a line behind another whose parts have been read
 module _ (s : List ℕ) (key : List ℕ) where

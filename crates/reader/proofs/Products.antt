@@ -1,6 +1,6 @@
 -- A product held at a bound M after every factor is the exact product held at M: once at M, the product stays at M or falls to 0
 -- with a factor 0, as the exact one does.
-use mathlib.Core.Path.{_≡_, refl, sym, ap, _∙_}
+use mathlib.Core.Path.{_≡_, refl, _∙_}
 use mathlib.Core.Bool.{Bool, true, false}
 use mathlib.Core.List.{List, [], _∷_}
 use Prim.Native.Nat.{ℕ, zero, suc, _+_, _*_, _≤_, _<_, min}

@@ -8,7 +8,7 @@ use Rattle.reader.specs.Keys.{labelKey, roadKey, moveKey}
 use Rattle.reader.specs.Line.{lineOfOne, lineOfTwo, lineOfFour, firstOf, secondOf, thirdOf, fourthOf}
 use Rattle.automata.specs.declared.Automaton.{Automaton}
 use Rattle.automata.specs.WellFormed.{noAutomaton}
-use Rattle.reader.specs.Blocks.{Filling, labelStep, labelBlock, roadStep, roadBlock, moveStep, moveBlock, softBlock, softStep, softBlocks}
+use Rattle.reader.specs.Blocks.{labelStep, labelBlock, roadStep, roadBlock, moveStep, moveBlock, softBlock, softStep, softBlocks}
 use Rattle.reader.specs.declared.line.Line.{Line}
 use Rattle.reader.specs.declared.block.LabelBlock.{LabelBlock}
 use Rattle.reader.specs.declared.block.RoadBlock.{RoadBlock}

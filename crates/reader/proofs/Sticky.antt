@@ -1,6 +1,5 @@
 -- What every line keeps of the line before it, every block keeps, by induction on its count: that there is a fault, and that a
 -- fault's line is at most one above the text's length.
-use mathlib.Core.Path.{_≡_, refl}
 use mathlib.Core.Bool.{Bool, true, false}
 use mathlib.Core.List.{List}
 use Prim.Native.Nat.{ℕ, zero, suc, _+_, _^_, _≤_}

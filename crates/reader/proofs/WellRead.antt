@@ -1,6 +1,7 @@
--- A plan that was read is well formed, and its product has a size of at most 2,048 (`read-well`, `read-small`). The answer is a plan
--- only where the text is short enough, no line has a fault and the size is small; then every block was read without a fault.
-use mathlib.Core.Path.{_≡_, refl, _∙_}
+-- A plan that was read is well formed, and its product has a size of at most 2,048 (`read-well`, `read-small`); where a plan is turned
+-- away, the plan of the answer is empty (`refused-empty`). The answer is a plan only where the text is short enough, no line has a fault
+-- and the size is small; then every block was read without a fault.
+use mathlib.Core.Path.{_≡_, refl}
 use mathlib.Core.Bool.{Bool, true, false}
 use mathlib.Core.List.{List}
 use Prim.Native.Nat.{ℕ, _^_, _≤_}
@@ -10,14 +11,15 @@ use lib.ListN.{length}
 use lib.Dec.{ltb}
 use borrow.Author.Tests.{ltb-false}
 use Rattle.plan.specs.Size.{size}
-use Rattle.plan.specs.WellFormed.{WellFormed}
+use Rattle.plan.specs.WellFormed.{WellFormed, noPlan}
 use Rattle.plan.specs.declared.Plan.{Plan}
+use Rattle.plan.specs.declared.Refusal.{Refusal}
 use Rattle.plan.specs.declared.Refusal.the-variants.{PlanTooLong, ProductTooLarge}
 use Rattle.reader.specs.Keys.{tourKey, marksKey, placesKey, startKey, roadsKey, rulesKey}
-use Rattle.reader.specs.Line.{lineOfOne, firstOf, top, finish}
+use Rattle.reader.specs.Line.{lineOfOne, firstOf, top}
 use Rattle.reader.specs.Blocks.{labelBlock, roadBlock, hardBlock, softBlocks}
 use Rattle.reader.specs.Map.{mapOf}
-use Rattle.reader.specs.Reading.{draftOf, choose, refuse, weigh, answer, readPlan}
+use Rattle.reader.specs.Reading.{draftOf, choose, refuse, admit, answer, readPlan}
 use Rattle.reader.specs.declared.line.Line.{Line}
 use Rattle.reader.specs.declared.line.Line.the-variants as line
 use Rattle.reader.specs.declared.block.LabelBlock.{LabelBlock}
@@ -130,7 +132,7 @@ record Passed (l : Line) (p given : Plan) : Type 0 where
   pub same : given ≡ p
 
 answer-plan : (l : Line) (p : Plan) → answer l p .outcome ≡ outcome.Plan → Passed l p (answer l p .plan)
-unfolding answer weigh
+unfolding answer admit
 answer-plan (line.Fault f) p e = let z : _≡_ {A = ℕ} 0 1 = cc in absurd (omega arith)
 answer-plan (line.Numbers xs c) p e = by-test (ltb 2048 (size p)) refl e
   where
@@ -156,3 +158,22 @@ module _ (s : List ℕ) (e : readPlan s .outcome ≡ outcome.Plan) where
 
   pub read-small : size (readPlan s .plan) ≤ 2048
   read-small = rw (passed .same) (passed .small)
+
+answer-empty : (l : Line) (p : Plan) (r : Refusal) → answer l p .outcome ≡ outcome.Refused r → answer l p .plan ≡ noPlan
+unfolding answer admit
+answer-empty (line.Fault f) p r e = refl
+answer-empty (line.Numbers xs c) p r e = by-test (ltb 2048 (size p)) e
+  where
+    by-test : (t : Bool) → choose t (refuse ProductTooLarge) (record { outcome = outcome.Plan; plan = p }) .outcome ≡ outcome.Refused r
+        → choose t (refuse ProductTooLarge) (record { outcome = outcome.Plan; plan = p }) .plan ≡ noPlan
+    by-test true e = refl
+    by-test false e = let z : _≡_ {A = ℕ} 0 1 = cc in absurd (omega arith)
+
+pub refused-empty : (s : List ℕ) (r : Refusal) → readPlan s .outcome ≡ outcome.Refused r → readPlan s .plan ≡ noPlan
+unfolding readPlan
+refused-empty s r e = by-test (ltb 60000 (length s)) e
+  where
+    by-test : (t : Bool) → choose t (refuse PlanTooLong) (answer (draftOf s .line) (draftOf s .plan)) .outcome ≡ outcome.Refused r
+        → choose t (refuse PlanTooLong) (answer (draftOf s .line) (draftOf s .plan)) .plan ≡ noPlan
+    by-test true e = refl
+    by-test false e = answer-empty (draftOf s .line) (draftOf s .plan) r e

@@ -1,6 +1,7 @@
 -- Blocks of lines (01, "The plan file"). What an array has room for beyond the lines that are read is 0.
 --   repeat n f x                    == f, n times, from x on
 --   Filling B                       == a block B in reading, with the index that the next line's numbers go to
+--   labelStep, roadStep, moveStep, softStep == one line, or one soft rule, more
 --   labelBlock s prior n bound      == n lines `label=L`, each L below bound
 --   roadBlock s prior n bound       == n lines `road=A,B`, both below bound
 --   moveBlock s prior n q labels    == n lines `move=q,need,bar,r` of an automaton of q states, need and bar below labels

@@ -1,4 +1,5 @@
--- The keys of the lines of a plan file with their `=`, in ASCII (01, "The plan file").
+-- The keys of the lines of a plan file (01, "The plan file").
+--   tourKey, marksKey, .. == the ASCII bytes of `tour=`, `marks=` and so on
 use mathlib.Core.List.{List, [], _∷_}
 use Prim.Native.Nat.{ℕ}
 

@@ -1,6 +1,8 @@
 -- One line of a plan file (01, "The plan file"; the causes 2 and 3 of "Why a plan is turned away"). A line is read behind the
 -- line before it. Once a line has a fault, every later one is that fault again: the first faulty line decides.
 --   within x low bound                  == x is at least low and below bound
+--   both x y                            == x and y
+--   choose t a b                        == a if t, and b if not
 --   judge s at last fit xs              == what the line at index `at` comes to: a form fault if its last number is bad, a range
 --                                          fault if its numbers do not fit, and else the numbers xs with the next cursor
 --   judgeOne s at low bound a           == the line at index `at` with the number a
@@ -12,7 +14,7 @@
 --   firstOf, secondOf, thirdOf, fourthOf l == the numbers of a line, 0 of a fault
 --   top                                 == before the first line
 --   finish s last                       == the last line again, or a form fault of the next one where bytes follow it
---   OneRead given bound r               == r is the line `given`, and its number is below bound; so TwoRead, FourRead
+--   OneRead given bound r               == r is the line `given`, and its number is at most bound - 1; so TwoRead, FourRead
 use mathlib.Core.Path.{_≡_}
 use mathlib.Core.Bool.{Bool, true, false, cond}
 use mathlib.Core.List.{List}
@@ -33,7 +35,6 @@ within x low bound = cond (ltb x low) false (ltb x bound)
 abbrev pub both : Bool → Bool → Bool
 both x y = cond x y false
 
--- the first line if t, the second if not
 abbrev pub choose : Bool → Line → Line → Line
 choose true a b = a
 choose false a b = b

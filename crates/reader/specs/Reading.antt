@@ -3,7 +3,9 @@
 --   DraftRead given r == r is the draft `given`; it has at most 8 soft rules
 --   refusalOf f       == the refusal that a line's fault comes to
 --   refuse r          == the answer that turns a plan away: the cause, and an empty plan
---   weigh p           == the plan p, unless its product is too large
+--   choose t a b      == a if t, and b if not
+--   admit p           == the plan p, unless its product is too large
+--   answer l p        == the answer to lines that end with l and make the plan p
 --   readPlan s        == the answer to the plan file s: its length is judged before its lines, its lines before its size
 use mathlib.Core.Path.{_≡_}
 use mathlib.Core.Bool.{Bool, true, false}
@@ -63,17 +65,16 @@ refusalOf (Range n) = refusal.Range n
 abbrev pub refuse : Refusal → Reading
 refuse r = record { outcome = outcome.Refused r; plan = noPlan }
 
--- the first answer if t, the second if not
 abbrev pub choose : Bool → Reading → Reading → Reading
 choose true a b = a
 choose false a b = b
 
-unfoldable pub weigh : Plan → Reading
-weigh p = choose (ltb 2048 (size p)) (refuse refusal.ProductTooLarge) (record { outcome = outcome.Plan; plan = p })
+unfoldable pub admit : Plan → Reading
+admit p = choose (ltb 2048 (size p)) (refuse refusal.ProductTooLarge) (record { outcome = outcome.Plan; plan = p })
 
 unfoldable pub answer : Line → Plan → Reading
 answer (line.Fault f) p = refuse (refusalOf f)
-answer (line.Numbers xs c) p = weigh p
+answer (line.Numbers xs c) p = admit p
 
 unfoldable pub readPlan : List ℕ → Reading
 readPlan s = choose (ltb 60000 (length s)) (refuse refusal.PlanTooLong) (answer (draftOf s .line) (draftOf s .plan))

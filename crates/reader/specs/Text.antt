@@ -5,11 +5,13 @@
 --   digits d           == how many digits d begins with
 --   value v d          == what v and then those digits write in decimal, exactly, at any digit count
 --   pick t n           == n if t, and Bad if not
+--   leading d at e     == the number that d begins with, where d stands at index `at` of a text
 --   numberAt s at e    == the number at index `at` of s, ended by the byte e, with the index just past e; Bad if none is there
 --   keyAt s at key     == the key at index `at` of s, as a number 0, with the index just past it; Bad if it is not there
 --   after s n e        == the number that stands behind the number or the key n, ended by the byte e
 --   valueOf n          == the value of a number, 0 of a bad one
---   cap n              == n with its value held at 2^32 - 1
+--   cap n              == n with its value held at 2^32 - 1; no part of the format, it says what the code knows of a number
+--   newline b          == 1 for the byte 10, 0 for any other
 --   newlines d         == how many bytes of d are 10
 --   lineAt s at        == the line, from 1, that begins at index `at` of s
 use mathlib.Core.Bool.{Bool, true, false, cond}
@@ -43,7 +45,6 @@ abbrev pub pick : Bool → Number → Number
 pick true n = n
 pick false n = Bad
 
--- the number that d begins with, where d stands at index `at`
 unfoldable pub leading : List ℕ → ℕ → ℕ → Number
 leading d at e =
     pick (ltb (digits d) (length d))

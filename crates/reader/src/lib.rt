@@ -21,7 +21,7 @@ use size::held_size;
 ghost use mathlib.Core.Path.{_≡_};
 ghost use Prim.Native.Nat.{_≤_};
 ghost use Rattle.plan.specs.WellFormed.{noPlan};
-ghost use Rattle.reader.specs.Reading.{draftOf, DraftRead, refusalOf, refuse, weigh, readPlan};
+ghost use Rattle.reader.specs.Reading.{draftOf, DraftRead, refusalOf, refuse, admit, readPlan};
 ghost use Rattle.reader.specs.Outcome.{number, lineOf, faultLine};
 
 // What the lines of a whole plan file come to: the last line or the first fault, and the plan, which stands if there is none.
@@ -116,9 +116,9 @@ fn refusal_of(fault: Fault) -> Refusal
 }
 
 // The plan, unless its product is too large.
-fn weigh(plan: Plan) -> Reading
+fn admit(plan: Plan) -> Reading
     requires { ⌜ plan .rules ≤ 8 ⌝ }
-    ensures { λ r. ⌜ r ≡ weigh plan ⌝ }
+    ensures { λ r. ⌜ r ≡ admit plan ⌝ }
 {
     if 2048 < held_size(plan) {
         return refuse(Refusal::ProductTooLarge);
@@ -138,7 +138,7 @@ pub fn read_plan(s: &[u8]) -> Reading
     let line = draft.line;
     let plan = draft.plan;
     let Line::Fault(fault) = line else {
-        return weigh(plan);
+        return admit(plan);
     };
     refuse(refusal_of(fault))
 }

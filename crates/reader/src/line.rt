@@ -171,6 +171,7 @@ pub fn line_of_four(s: &[u8], prior: Line, key: &[u8], outer: u32, inner: u32) -
     judge_four(s, at, outer, inner, a, b, c, d)
 }
 
+// The numbers of a line, 0 of a fault.
 pub fn first_of(l: Line) -> u32
     ensures { λ r. ⌜ r ≡ firstOf l ⌝ }
 {

@@ -37,6 +37,7 @@ fn digit(b: u8) -> bool
     b <= b'9'
 }
 
+// Whether `count` digits, of which this is the first, write a number: there is one, and no leading zero.
 fn canonical(first: u8, count: usize) -> bool
     ensures { λ r. ⌜ r ≡ canonical first count ⌝ }
 {
@@ -49,6 +50,7 @@ fn canonical(first: u8, count: usize) -> bool
     true
 }
 
+// The same number at 64 bits, where a product of it fits.
 pub fn wide(x: u32) -> u64
     ensures { λ r. ⌜ (r ≡ x) × (r < 4294967296) ⌝ }
 {
@@ -106,6 +108,7 @@ pub fn after(s: &[u8], prior: Number, end: u8) -> Number
     number_at(s, i, end)
 }
 
+// The value, 0 of a bad number.
 pub fn value_of(n: Number) -> u32
     ensures { λ r. ⌜ r ≡ valueOf n ⌝ }
 {

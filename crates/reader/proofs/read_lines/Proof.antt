@@ -34,10 +34,15 @@ finish-requires c κs = search needs
 
 returns : tie.Need-returns
 returns c =
+    let last = c .before .before .before .before .before .before in
+    let soft = last .before in
+    let count = soft .before .before in
+    let hard = count .before .before in
+    let map = hard .before .before in
     record {
-      same = draft-made _ _ _ _ _ _ _ _ (c .before .before .before .before .before .before .before .before .before .before .before .before .before .read-map .ensures .same) (c .before .before .before .before .before .before .before .before .before .before .before .before .label-count .ensures .0) (c .before .before .before .before .before .before .before .before .before .before .before .hard-block .ensures) (c .before .before .before .before .before .before .before .before .before .line-of-one .ensures .same)
-          (c .before .before .before .before .before .before .before .before .first-of .ensures) (c .before .before .before .before .before .before .before .soft-blocks .ensures) (c .before .before .before .before .before .before .finish .ensures);
-      rules = omega (arith, c .before .before .before .before .before .before .before .before .first-of .ensures, c .before .before .before .before .before .before .before .before .before .line-of-one .ensures .first-low);
+      same = draft-made _ _ _ _ _ _ _ _ (map .read-map .ensures .same) (hard .before .label-count .ensures .0) (hard .hard-block .ensures)
+          (count .line-of-one .ensures .same) (soft .before .first-of .ensures) (soft .soft-blocks .ensures) (last .finish .ensures);
+      rules = omega (arith, soft .before .first-of .ensures, count .line-of-one .ensures .first-low);
     }
 
 pub read-lines-spec : {M : Type 1} → statement M

@@ -20,21 +20,27 @@ enum-known-line c = search needs
 enum-told : tie.Need-enum-told
 enum-told c = search needs
 
-weigh-requires : tie.Need-weigh-requires
-weigh-requires c κs = search needs
+admit-requires : tie.Need-admit-requires
+admit-requires c κs = search needs
 
 returns-2 : tie.Need-returns-2
-returns-2 c = c .weigh .ensures ∙ faultless _ (c .before .before .before .before .before .if1 .left) _ (c .before .before .before .before .read-lines .ensures .same) _ _ (c .before .enum-told .given .1)
+returns-2 c =
+    let read = c .before .before .before .before in
+    c .admit .ensures ∙ faultless _ (read .before .if1 .left) _ (read .read-lines .ensures .same) _ _ (c .before .enum-told .given .1)
 
 refusal-of-requires : tie.Need-refusal-of-requires
-refusal-of-requires c κs = line-fits _ (c .before .before .before .before .before .if1 .left) _ (c .before .before .before .before .read-lines .ensures .same) _ (c .before .line .given .1)
+refusal-of-requires c κs =
+    let read = c .before .before .before .before in
+    line-fits _ (read .before .if1 .left) _ (read .read-lines .ensures .same) _ (c .before .line .given .1)
 
 refuse-requires-2 : tie.Need-refuse-requires-2
 refuse-requires-2 c κs = search needs
 
 returns-3 : tie.Need-returns-3
 returns-3 c =
-    c .refuse2 .ensures ∙ rw (c .before .refusal-of .ensures) (faulty _ (c .before .before .before .before .before .before .before .if1 .left) _ (c .before .before .before .before .before .before .read-lines .ensures .same) _ (c .before .before .before .line .given .1))
+    let read = c .before .before .before .before .before .before in
+    c .refuse2 .ensures
+    ∙ rw (c .before .refusal-of .ensures) (faulty _ (read .before .if1 .left) _ (read .read-lines .ensures .same) _ (c .before .before .before .line .given .1))
 
 pub read-plan-spec : {M : Type 1} → statement M
 read-plan-spec =
@@ -45,7 +51,7 @@ read-plan-spec =
     read-lines-requires
     enum-known-line
     enum-told
-    weigh-requires
+    admit-requires
     returns-2
     refusal-of-requires
     refuse-requires-2

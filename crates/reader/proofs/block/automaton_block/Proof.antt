@@ -42,8 +42,12 @@ first-of-requires-3 c κs = search needs
 
 returns : tie.Need-returns
 returns c =
-    automaton-made _ _ _ _ _ _ _ _ _ _ _ _ (c .before .before .before .before .before .before .before .before .before .before .before .before .before .line-of-one .ensures .same) (c .before .before .before .before .before .before .before .before .before .before .before .power .ensures .0) (c .before .before .before .before .before .before .before .before .before .before .line-of-one2 .ensures .same)
-    (c .before .before .before .before .before .before .before .before .line-of-one3 .ensures .same) (c .before .before .before .before .before .before .before .first-of .ensures) (c .before .before .before .before .before .before .move-block .ensures) (c .before .first-of2 .ensures) (c .first-of3 .ensures)
+    let move = c .before .before .before .before .before .before in
+    let count = move .before .before in
+    let accept = count .before .before in
+    let first = accept .before .before .before in
+    automaton-made _ _ _ _ _ _ _ _ _ _ _ _ (first .line-of-one .ensures .same) (accept .before .power .ensures .0) (accept .line-of-one2 .ensures .same)
+    (count .line-of-one3 .ensures .same) (move .before .first-of .ensures) (move .move-block .ensures) (c .before .first-of2 .ensures) (c .first-of3 .ensures)
 
 pub automaton-block-spec : {M : Type 1} → statement M
 automaton-block-spec =

@@ -54,7 +54,8 @@ loop-again c =
       within = omega arith;
       room = l .inv .room;
       bytes = l .inv .bytes;
-      same = rest-step _ _ _ _ _ (l .inv .same) (c .before .before .before .loop-test .taken) _ (label-step _ _ _ _ _ (l .labels) _ (c .before .line-of-one .ensures .same) (c .first-of .ensures));
+      same = rest-step _ _ _ _ _ (l .inv .same) (c .before .before .before .loop-test .taken) _
+          (label-step _ _ _ _ _ (l .labels) _ (c .before .line-of-one .ensures .same) (c .first-of .ensures));
     }
 
 returns : tie.Need-returns Inv-loop μ-loop

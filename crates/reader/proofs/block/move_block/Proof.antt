@@ -77,14 +77,16 @@ loop-less c = search needs
 
 loop-again : tie.Need-loop-again Inv-loop μ-loop
 loop-again c =
-    let l = c .before .before .before .before .before .before .before .loop in
+    let line = c .before .before .before .before in
+    let l = line .before .before .before .loop in
     record {
       within = omega arith;
       room = l .inv .room;
       state-bytes = l .inv .state-bytes;
       label-bytes = l .inv .label-bytes;
-      same = rest-step _ _ _ _ _ (l .inv .same) (c .before .before .before .before .before .before .loop-test .taken) _
-          (move-step _ _ _ _ _ _ (l .from) (l .need) (l .bar) (l .to) _ _ _ _ (c .before .before .before .before .line-of-four .ensures .same) (c .before .before .before .first-of .ensures) (c .before .before .second-of .ensures) (c .before .third-of .ensures) (c .fourth-of .ensures));
+      same = rest-step _ _ _ _ _ (l .inv .same) (line .before .before .loop-test .taken) _
+          (move-step _ _ _ _ _ _ (l .from) (l .need) (l .bar) (l .to) _ _ _ _ (line .line-of-four .ensures .same) (c .before .before .before .first-of .ensures)
+          (c .before .before .second-of .ensures) (c .before .third-of .ensures) (c .fourth-of .ensures));
     }
 
 returns : tie.Need-returns Inv-loop μ-loop

@@ -27,8 +27,11 @@ first-of-requires-2 c κs = search needs
 
 returns : tie.Need-returns
 returns c =
-    soft-made _ _ _ _ _ _ _ _ (c .before .before .before .before .before .before .line-of-one .ensures .same) (c .before .before .before .before .line-of-one2 .ensures .same) (c .before .before .before .first-of .ensures) (c .before .before .automaton-block .ensures)
-    (c .first-of2 .ensures)
+    let block = c .before .before in
+    let weight = block .before .before in
+    let states = weight .before .before in
+    soft-made _ _ _ _ _ _ _ _ (states .line-of-one .ensures .same) (weight .line-of-one2 .ensures .same) (block .before .first-of .ensures)
+    (block .automaton-block .ensures) (c .first-of2 .ensures)
 
 pub soft-block-spec : {M : Type 1} → statement M
 soft-block-spec =

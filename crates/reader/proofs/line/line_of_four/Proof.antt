@@ -34,7 +34,10 @@ judge-four-requires c κs = search needs
 
 returns-2 : tie.Need-returns-2
 returns-2 c =
-    four-read _ _ _ _ _ _ _ (omega (arith, c .before .before .before .before .before .before .before .before .before .before .before .fits)) (omega (arith, c .before .before .before .before .before .before .before .before .before .before .before .fits)) (c .before .before .before .before .before .before .before .prior .given .1) _ _ _ _ _ _ (c .before .before .before .before .before .key-at .ensures) (c .before .before .before .before .after .ensures) (c .before .before .before .after2 .ensures)
+    let key = c .before .before .before .before .before in
+    let start = key .before .before .before .before .before .before in
+    four-read _ _ _ _ _ _ _ (omega (arith, start .fits)) (omega (arith, start .fits)) (key .before .before .prior .given .1) _ _ _ _ _ _
+    (key .key-at .ensures) (c .before .before .before .before .after .ensures) (c .before .before .before .after2 .ensures)
     (c .before .before .after3 .ensures) (c .before .after4 .ensures) (c .judge-four .ensures)
 
 pub line-of-four-spec : {M : Type 1} → statement M

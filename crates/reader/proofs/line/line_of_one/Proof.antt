@@ -25,7 +25,10 @@ judge-one-requires c κs = search needs
 
 returns-2 : tie.Need-returns-2
 returns-2 c =
-    one-read _ _ _ _ _ _ _ (omega (arith, c .before .before .before .before .before .before .before .before .fits)) (c .before .before .before .before .prior .given .1) _ _ _ (c .before .before .key-at .ensures) (c .before .after .ensures) (c .judge-one .ensures)
+    let key = c .before .before in
+    let start = key .before .before .before .before .before .before in
+    one-read _ _ _ _ _ _ _ (omega (arith, start .fits)) (key .before .before .prior .given .1) _ _ _
+    (key .key-at .ensures) (c .before .after .ensures) (c .judge-one .ensures)
 
 pub line-of-one-spec : {M : Type 1} → statement M
 line-of-one-spec =

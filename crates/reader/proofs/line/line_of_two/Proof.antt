@@ -28,8 +28,10 @@ judge-two-requires c κs = search needs
 
 returns-2 : tie.Need-returns-2
 returns-2 c =
-    two-read _ _ _ _ _ _ (omega (arith, c .before .before .before .before .before .before .before .before .before .fits)) (c .before .before .before .before .before .prior .given .1) _ _ _ _ (c .before .before .before .key-at .ensures) (c .before .before .after .ensures) (c .before .after2 .ensures)
-    (c .judge-two .ensures)
+    let key = c .before .before .before in
+    let start = key .before .before .before .before .before .before in
+    two-read _ _ _ _ _ _ (omega (arith, start .fits)) (key .before .before .prior .given .1) _ _ _ _
+    (key .key-at .ensures) (c .before .before .after .ensures) (c .before .after2 .ensures) (c .judge-two .ensures)
 
 pub line-of-two-spec : {M : Type 1} → statement M
 line-of-two-spec =

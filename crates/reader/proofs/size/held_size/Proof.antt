@@ -41,7 +41,14 @@ grown-requires-2 : tie.Need-grown-requires-2 Inv-loop μ-loop
 grown-requires-2 c κs = search needs
 
 loop-holds : tie.Need-loop-holds Inv-loop μ-loop
-loop-holds c = record { within = omega arith; room = c .before .before .before .before .before .before .before .pre; small = c .before .grown2 .ensures .1; held = product-none 2049 _ _ (c .before .grown2 .ensures .1) }
+loop-holds c =
+    let start = c .before in
+    record {
+      within = omega arith;
+      room = start .before .before .before .before .before .before .pre;
+      small = start .grown2 .ensures .1;
+      held = product-none 2049 _ _ (start .grown2 .ensures .1);
+    }
 
 mul-a : tie.Need-mul-a Inv-loop μ-loop
 mul-a c = search needs
@@ -67,21 +74,26 @@ loop-less c = search needs
 loop-again : tie.Need-loop-again Inv-loop μ-loop
 loop-again c =
     let l = c .before .before .before .before .loop in
+    let p = c .before .before .before .before .before .before .before .before .before .before .before .before .args .plan in
     record {
       within = omega arith;
       room = l .inv .room;
       small = c .grown3 .ensures .1;
-      held = product-more 2049 _ _ _ _ _ _ (l .inv .held) (ap (λ (q : ℕ). q + 1) (c .before .wide3 .ensures .0 ∙ states-default (c .before .before .before .before .before .before .before .before .before .before .before .before .args .plan .soft) (l .i) _ noAutomaton refl)) (c .grown3 .ensures .0);
+      held = product-more 2049 _ _ _ _ _ _ (l .inv .held)
+          (ap (λ (q : ℕ). q + 1) (c .before .wide3 .ensures .0 ∙ states-default (p .soft) (l .i) _ noAutomaton refl)) (c .grown3 .ensures .0);
     }
 
 returns : tie.Need-returns Inv-loop μ-loop
 returns c =
     let l = c .before .loop in
-    let p = c .before .before .before .before .before .before .before .before .before .args .plan in
+    let hard = c .before .before .before in
+    let places = hard .before .before in
+    let p = places .before .before .before .before .args .plan in
     let e : l .i ≡ p .rules = omega (arith, l .inv .within, c .loop-test .left) in
-    size-whole 2049 p (c .before .before .before .before .before .grown .result) (c .before .before .before .grown2 .result) (l .n) (c .before .before .before .before .before .grown .ensures .0 ∙ ap (λ (x : ℕ). min (1 * x) 2049) (c .before .before .before .before .before .before .wide .ensures .0))
-    (c .before .before .before .grown2 .ensures .0 ∙ ap (λ (x : ℕ). min (c .before .before .before .before .before .grown .result * x) 2049) (c .before .before .before .before .wide2 .ensures .0))
-    (l .inv .held ∙ ap (λ (k : ℕ). min (c .before .before .before .grown2 .result * productBelow k (λ i. soft p i .states + 1)) 2049) e)
+    size-whole 2049 p (places .grown .result) (hard .grown2 .result) (l .n)
+    (places .grown .ensures .0 ∙ ap (λ (x : ℕ). min (1 * x) 2049) (places .before .wide .ensures .0))
+    (hard .grown2 .ensures .0 ∙ ap (λ (x : ℕ). min (places .grown .result * x) 2049) (hard .before .wide2 .ensures .0))
+    (l .inv .held ∙ ap (λ (k : ℕ). min (hard .grown2 .result * productBelow k (λ i. soft p i .states + 1)) 2049) e)
 
 pub held-size-spec : {M : Type 1} → statement M
 held-size-spec =

@@ -1,5 +1,4 @@
 -- `after` meets its contract: each return is one case of its definition.
-use mathlib.Core.Path.{_∙_}
 use borrow.Author.Needs.{needs}
 use Rattle.reader.specs.Text.{after, cap}
 use Rattle.reader.proofs.text.after.Statement.{statement}

@@ -1,6 +1,6 @@
 -- `key_at` meets its contract. The loop keeps that the text begins with the key where the rest of the text begins with the
 -- rest of the key; each return is one case of `startsWith`.
-use mathlib.Core.Path.{_≡_, sym, ap, _∙_}
+use mathlib.Core.Path.{_≡_, _∙_}
 use mathlib.Core.List.{List}
 use mathlib.Core.Bool.{true, false}
 use Prim.Native.Nat.{ℕ, _+_, _-_, _≤_, _<_}

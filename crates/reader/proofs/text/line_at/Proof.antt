@@ -4,7 +4,7 @@ use mathlib.Core.Path.{_≡_}
 use mathlib.Core.List.{List}
 use Prim.Native.Nat.{ℕ, _+_, _-_, _≤_}
 use native.Mathlib.Omega.{arith}
-use lib.ListN.{length, take, drop}
+use lib.ListN.{take, drop}
 use Rattle.reader.specs.Text.{newlines, lineAt}
 use Rattle.reader.proofs.Newlines.{line-start, newlines-more, newlines-past, newlines-done}
 use borrow.Author.Needs.{needs}

@@ -1,0 +1,5 @@
+pub mod Overs
+pub mod Blocks
+pub mod Decimals
+pub mod Texts
+pub mod Figures

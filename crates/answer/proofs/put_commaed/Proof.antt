@@ -1,0 +1,107 @@
+-- `put_commaed` meets its contract. What is left to write at a turn are the places from `i` on, each behind a comma: a turn
+-- writes a comma and the first of them.
+use mathlib.Core.Path.{_≡_}
+use mathlib.Core.List.{List, [], _∷_, _++_}
+use Prim.Native.Nat.{ℕ, _+_, _-_, _≤_, _<_}
+use native.Mathlib.Omega.{arith}
+use borrow.Author.Needs.{needs}
+use lib.ListN.{length, drop, getD, drop-of-length-le}
+use Rattle.answer.specs.Decimal.{decimal}
+use Rattle.answer.specs.Over.{Wrote, Left}
+use Rattle.answer.specs.Text.{commaed}
+use Rattle.answer.proofs.Overs.{left-start, left-room, left-next, left-end}
+use Rattle.answer.proofs.Texts.{commaed-next}
+use Rattle.answer.proofs.put_commaed.Statement.{statement}
+use Rattle.answer.proofs.put_commaed.Tie as tie
+
+module _ {b : List ℕ} {at : ℕ} {text out : List ℕ} {next : ℕ} (places : List ℕ) (i : ℕ) where
+  module _ (h : i < length places) (l : Left b at text out next (commaed (drop i places))) where
+    from-comma : Left b at text out next ((44 ∷ []) ++ (decimal (getD places i 0) ++ commaed (drop (i + 1) places)))
+    from-comma = rw (commaed-next places i h) at l
+
+    comma-room : next < length out
+    comma-room = omega (arith, left-room (44 ∷ []) _ from-comma)
+
+    module _ {out₁ : List ℕ} {next₁ : ℕ} (comma : Wrote out next (44 ∷ []) out₁ next₁) where
+      from-number : Left b at text out₁ next₁ (decimal (getD places i 0) ++ commaed (drop (i + 1) places))
+      from-number = left-next (44 ∷ []) _ from-comma comma
+
+      number-room : next₁ + length (decimal (getD places i 0)) ≤ length out₁
+      number-room = left-room (decimal (getD places i 0)) _ from-number
+
+      turn : {x : ℕ} {out₂ : List ℕ} {next₂ : ℕ} → x ≡ getD places i 0 → Wrote out₁ next₁ (decimal x) out₂ next₂
+          → Left b at text out₂ next₂ (commaed (drop (i + 1) places))
+      turn e number = left-next (decimal (getD places i 0)) _ from-number (rw e at number)
+
+  end : length places ≤ i → Left b at text out next (commaed (drop i places)) → Wrote b at text out next
+  unfolding commaed
+  end h l = left-end (rw (drop-of-length-le places h) at l)
+
+abbrev Inv-loop : tie.InvT-loop
+Inv-loop out₀ at places next₀ i₀ out next i =
+    (i ≤ length places) × Left out₀ at (commaed places) out next (commaed (drop i places))
+
+abbrev μ-loop : tie.MeasureT-loop
+μ-loop out₀ at places next₀ i₀ out next i = length places - i
+
+loop-holds : tie.Need-loop-holds Inv-loop μ-loop
+loop-holds c =
+    let a = c .before .before .args in
+    (omega arith, left-start (a .out .now) (a .at) (commaed (a .places .now)) (c .before .before .pre))
+
+put-byte-requires : tie.Need-put-byte-requires Inv-loop μ-loop
+put-byte-requires c κs =
+    let l = c .before .before .loop in
+    comma-room (c .before .before .before .before .before .args .places .now) (l .i) (c .before .loop-test .taken) (l .inv .1)
+
+shared-slice-read-wide : tie.Need-shared-slice-read-wide Inv-loop μ-loop
+shared-slice-read-wide c = search needs
+
+wide-requires : tie.Need-wide-requires Inv-loop μ-loop
+wide-requires c κs = search needs
+
+put-decimal-requires : tie.Need-put-decimal-requires Inv-loop μ-loop
+put-decimal-requires c κs =
+    let l = c .before .before .before .before .before .before .before .before .loop in
+    rw (c .wide .ensures)
+    (number-room (c .before .before .before .before .before .before .before .before .before .before .before .args .places .now) (l .i) (c .before .before .before .before .before .before .before .loop-test .taken) (l .inv .1) (c .before .before .before .before .before .put-byte .ensures))
+
+add-i : tie.Need-add-i Inv-loop μ-loop
+add-i c = search needs
+
+loop-less : tie.Need-loop-less Inv-loop μ-loop
+loop-less c = search needs
+
+loop-again : tie.Need-loop-again Inv-loop μ-loop
+loop-again c =
+    let l = c .before .before .before .before .before .before .before .before .before .before .before .loop in (
+      omega arith,
+      turn (c .before .before .before .before .before .before .before .before .before .before .before .before .before .before .args .places .now) (l .i) (c .before .before .before .before .before .before .before .before .before .before .loop-test .taken) (l .inv .1) (c .before .before .before .before .before .before .before .before .put-byte .ensures)
+          (c .before .before .before .wide .ensures)
+          (c .before .before .put-decimal .ensures),
+    )
+
+same-length : tie.Need-same-length Inv-loop μ-loop
+same-length c = c .before .loop .inv .1 .size
+
+returns : tie.Need-returns Inv-loop μ-loop
+returns c =
+    let l = c .before .loop in
+    end (c .before .before .before .before .args .places .now) (l .i) (c .loop-test .left) (l .inv .1)
+
+pub put-commaed-spec : {M : Type 1} → statement M
+put-commaed-spec =
+    tie.close
+    (tie.spec
+    Inv-loop
+    μ-loop
+    loop-holds
+    put-byte-requires
+    shared-slice-read-wide
+    wide-requires
+    put-decimal-requires
+    add-i
+    loop-less
+    loop-again
+    same-length
+    returns)

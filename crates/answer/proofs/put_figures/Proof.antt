@@ -1,0 +1,118 @@
+-- `put_figures` meets its contract: each of the four calls writes the next line of what is left.
+use mathlib.Core.List.{List, _++_}
+use Prim.Native.Nat.{ℕ, _+_, _≤_}
+use native.Mathlib.Omega.{arith}
+use lib.ListN.{length}
+use Rattle.answer.specs.Decimal.{decimal}
+use Rattle.answer.specs.Over.{Wrote, Left}
+use Rattle.answer.specs.Text.{keyLine, answerKey, lineKey, costKey, keptKey, figures}
+use Rattle.answer.specs.declared.Answer.{Answer}
+use Rattle.answer.proofs.Overs.{left-start, left-room, left-next, left-last}
+use borrow.Author.Needs.{needs}
+use Rattle.answer.proofs.put_figures.Statement.{statement}
+use Rattle.answer.proofs.put_figures.Tie as tie
+
+abbrev number : Answer → List ℕ
+number a = keyLine answerKey (decimal (a .number))
+
+abbrev line : Answer → List ℕ
+line a = keyLine lineKey (decimal (a .line))
+
+abbrev cost : Answer → List ℕ
+cost a = keyLine costKey (decimal (a .cost))
+
+abbrev kept : Answer → List ℕ
+kept a = keyLine keptKey (decimal (a .kept))
+
+module _ (a : Answer) (b : List ℕ) (room : length (figures a) ≤ length b) where
+  from-number : Left b 0 (figures a) b 0 (number a ++ (line a ++ (cost a ++ kept a)))
+  unfolding figures
+  from-number = left-start b 0 (figures a) (omega arith)
+
+  first-room : 0 + length (number a) ≤ length b
+  first-room = left-room (number a) _ from-number
+
+  module _ {b₁ : List ℕ} {n₁ : ℕ} (d₁ : Wrote b 0 (number a) b₁ n₁) where
+    from-line : Left b 0 (figures a) b₁ n₁ (line a ++ (cost a ++ kept a))
+    from-line = left-next (number a) _ from-number d₁
+
+    second-room : n₁ + length (line a) ≤ length b₁
+    second-room = left-room (line a) _ from-line
+
+    module _ {b₂ : List ℕ} {n₂ : ℕ} (d₂ : Wrote b₁ n₁ (line a) b₂ n₂) where
+      from-cost : Left b 0 (figures a) b₂ n₂ (cost a ++ kept a)
+      from-cost = left-next (line a) _ from-line d₂
+
+      third-room : n₂ + length (cost a) ≤ length b₂
+      third-room = left-room (cost a) _ from-cost
+
+      module _ {b₃ : List ℕ} {n₃ : ℕ} (d₃ : Wrote b₂ n₂ (cost a) b₃ n₃) where
+        from-kept : Left b 0 (figures a) b₃ n₃ (kept a)
+        from-kept = left-next (cost a) _ from-cost d₃
+
+        fourth-room : n₃ + length (kept a) ≤ length b₃
+        fourth-room = omega (arith, from-kept .place, from-kept .size, from-kept .room)
+
+        all : {b₄ : List ℕ} {n₄ : ℕ} → Wrote b₃ n₃ (kept a) b₄ n₄ → Wrote b 0 (figures a) b₄ n₄
+        all d₄ = left-last from-kept d₄
+
+slice-aggregate-put-number-line : tie.Need-slice-aggregate-put-number-line
+slice-aggregate-put-number-line c = search needs
+
+put-number-line-requires : tie.Need-put-number-line-requires
+put-number-line-requires c κs =
+    let s = c .before .before .before in
+    first-room (s .args .a) (s .args .out .now) (s .pre)
+
+slice-aggregate-put-number-line-2 : tie.Need-slice-aggregate-put-number-line-2
+slice-aggregate-put-number-line-2 c = search needs
+
+put-number-line-requires-2 : tie.Need-put-number-line-requires-2
+put-number-line-requires-2 c κs =
+    let s = c .before .before .before .before .before .before .before .before in
+    second-room (s .args .a) (s .args .out .now) (s .pre) (c .before .before .before .before .put-number-line .ensures)
+
+slice-aggregate-put-number-line-3 : tie.Need-slice-aggregate-put-number-line-3
+slice-aggregate-put-number-line-3 c = search needs
+
+put-number-line-requires-3 : tie.Need-put-number-line-requires-3
+put-number-line-requires-3 c κs =
+    let s = c .before .before .before .before .before .before .before .before .before .before .before .before .before in
+    third-room (s .args .a) (s .args .out .now) (s .pre) (c .before .before .before .before .before .before .before .before .before .put-number-line .ensures)
+    (c .before .before .before .before .put-number-line2 .ensures)
+
+slice-aggregate-put-number-line-4 : tie.Need-slice-aggregate-put-number-line-4
+slice-aggregate-put-number-line-4 c = search needs
+
+put-number-line-requires-4 : tie.Need-put-number-line-requires-4
+put-number-line-requires-4 c κs =
+    let s = c .before .before .before .before .before .before .before .before .before .before .before .before .before .before .before .before .before .before in
+    fourth-room (s .args .a) (s .args .out .now) (s .pre) (c .before .before .before .before .before .before .before .before .before .before .before .before .before .before .put-number-line .ensures)
+    (c .before .before .before .before .before .before .before .before .before .put-number-line2 .ensures)
+    (c .before .before .before .before .put-number-line3 .ensures)
+
+same-length : tie.Need-same-length
+same-length c = search needs
+
+returns : tie.Need-returns
+returns c =
+    let s = c .before .before .before .before .before .before .before .before .before .before .before .before .before .before .before .before .before .before .before .before .before in
+    all (s .args .a) (s .args .out .now) (s .pre) (c .before .before .before .before .before .before .before .before .before .before .before .before .before .before .before .before .before .put-number-line .ensures)
+    (c .before .before .before .before .before .before .before .before .before .before .before .before .put-number-line2 .ensures)
+    (c .before .before .before .before .before .before .before .put-number-line3 .ensures)
+    (c .before .before .put-number-line4 .ensures)
+
+pub put-figures-spec : {M : Type 1} → statement M
+put-figures-spec =
+    tie.close
+    (tie.spec
+    slice-aggregate-put-number-line
+    put-number-line-requires
+    slice-aggregate-put-number-line-2
+    put-number-line-requires-2
+    slice-aggregate-put-number-line-3
+    put-number-line-requires-3
+    slice-aggregate-put-number-line-4
+    put-number-line-requires-4
+    same-length
+    returns)

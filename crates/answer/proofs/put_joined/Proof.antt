@@ -1,0 +1,102 @@
+-- `put_joined` meets its contract: no place is no text, and else the first place and then the others, each behind a comma,
+-- are the text. The part of the list behind its first place is what dropping that place leaves.
+use mathlib.Core.Path.{_≡_, refl, sym}
+use mathlib.Core.List.{List, [], _∷_, _++_}
+use Prim.Native.Nat.{ℕ, _+_, _-_, _≤_, _<_}
+use native.Mathlib.Nat.{add-zero}
+use native.Mathlib.Omega.{arith}
+use lib.ListN.{length, take, drop, getD, length-append, length-drop}
+use lib.Seq.{take-all}
+use Rattle.answer.specs.Decimal.{decimal}
+use Rattle.answer.specs.Over.{Wrote}
+use Rattle.answer.specs.Text.{commaed, joined}
+use Rattle.answer.proofs.Overs.{over-none, wrote-both, left-start, left-room, left-next}
+use Rattle.answer.proofs.Texts.{joined-first}
+use borrow.Author.Needs.{needs}
+use Rattle.answer.proofs.put_joined.Statement.{statement}
+use Rattle.answer.proofs.put_joined.Tie as tie
+
+part-to-end : (i : ℕ) (s : List ℕ) → take (length s - i) (drop i s) ≡ drop i s
+part-to-end i s = take-all (length s - i) (drop i s) (simp length-drop (omega arith))
+
+none : (b : List ℕ) (at : ℕ) (places : List ℕ) → length places ≡ 0 → Wrote b at (joined places) b at
+unfolding joined
+none b at [] e = record { place = sym (add-zero at); bytes = sym (over-none b at) }
+none b at (p ∷ places) e = absurd (omega arith)
+
+abbrev first : List ℕ → List ℕ
+first places = decimal (getD places 0 0)
+
+abbrev others : List ℕ → List ℕ
+others places = commaed (drop 1 places)
+
+module _ (places : List ℕ) (some : 0 < length places) (b : List ℕ) (at : ℕ) (room : at + length (joined places) ≤ length b) where
+  room-both : at + length (first places ++ others places) ≤ length b
+  room-both = rw (joined-first places some) at room
+
+  first-room : at + length (first places) ≤ length b
+  first-room = left-room (first places) (others places) (left-start b at (first places ++ others places) room-both)
+
+  module _ {x : ℕ} {now : List ℕ} {next : ℕ} (e : x ≡ getD places 0 0) (d : Wrote b at (decimal x) now next) where
+    others-room : next + length (others places) ≤ length now
+    others-room =
+        let l = left-next (first places) (others places) (left-start b at (first places ++ others places) room-both) (rw e at d) in
+        omega (arith, l .place, l .size, l .room)
+
+    both : {after : List ℕ} {end : ℕ} → Wrote now next (others places) after end → Wrote b at (joined places) after end
+    both o = rw (joined-first places some) (wrote-both room-both (rw e at d) o)
+
+returns : tie.Need-returns
+returns c =
+    let a = c .before .before .before .args in
+    none (a .out .now) (a .at) (a .places .now) (c .if1 .taken)
+
+shared-slice-read-wide : tie.Need-shared-slice-read-wide
+shared-slice-read-wide c = search needs
+
+wide-requires : tie.Need-wide-requires
+wide-requires c κs = search needs
+
+put-decimal-requires : tie.Need-put-decimal-requires
+put-decimal-requires c κs =
+    let a = c .before .before .before .before .before .before .args in
+    rw (c .wide .ensures) (first-room (a .places .now) (omega arith) (a .out .now) (a .at) (c .before .before .before .before .before .before .pre))
+
+sub-put-commaed : tie.Need-sub-put-commaed
+sub-put-commaed c = search needs
+
+part-put-commaed-start : tie.Need-part-put-commaed-start
+part-put-commaed-start c = search needs
+
+part-put-commaed-end : tie.Need-part-put-commaed-end
+part-put-commaed-end c = search needs
+
+put-commaed-requires : tie.Need-put-commaed-requires
+put-commaed-requires c κs =
+    let a = c .before .before .before .before .before .before .before .before .before .before .before .args in
+    rw part-to-end
+    (others-room (a .places .now) (omega arith) (a .out .now) (a .at) (c .before .before .before .before .before .before .before .before .before .before .before .pre) (c .before .before .before .before .before .wide .ensures) (c .before .before .before .before .put-decimal .ensures))
+
+same-length : tie.Need-same-length
+same-length c = search needs
+
+returns-2 : tie.Need-returns-2
+returns-2 c =
+    let a = c .before .before .before .before .before .before .before .before .before .before .before .before .before .before .args in
+    both (a .places .now) (omega arith) (a .out .now) (a .at) (c .before .before .before .before .before .before .before .before .before .before .before .before .before .before .pre) (c .before .before .before .before .before .before .before .before .wide .ensures) (c .before .before .before .before .before .before .before .put-decimal .ensures)
+    (rw part-to-end at (c .before .before .put-commaed .ensures))
+
+pub put-joined-spec : {M : Type 1} → statement M
+put-joined-spec =
+    tie.close
+    (tie.spec
+    returns
+    shared-slice-read-wide
+    wide-requires
+    put-decimal-requires
+    sub-put-commaed
+    part-put-commaed-start
+    part-put-commaed-end
+    put-commaed-requires
+    same-length
+    returns-2)

@@ -1,0 +1,83 @@
+-- `write_text` meets its contract: the text has three parts, the figures and the two lists. The room that is asked for is
+-- enough, since a number has at most ten digits and a place three and a comma.
+use Prim.Native.Nat.{_+_, _≤_}
+use native.Mathlib.Omega.{arith}
+use lib.ListN.{length}
+use Rattle.answer.specs.Text.{joined, keyLine, runinKey, loopKey, figures, textOf}
+use Rattle.answer.proofs.Overs.{second-room, third-room, wrote-three, wrote-front}
+use Rattle.answer.proofs.Texts.{figures-length, text-length}
+use borrow.Author.Needs.{needs}
+use Rattle.answer.proofs.write_text.Statement.{statement}
+use Rattle.answer.proofs.write_text.Tie as tie
+
+figures-short : (c : tie.After-slice-known) → length (figures (c .before .before .before .args .a)) ≤ 66
+figures-short c =
+    let s = c .before .before .before in
+    figures-length (s .args .a) (omega (arith, s .good .0)) (omega (arith, s .good .0)) (omega (arith, s .good .0))
+    (omega (arith, s .good .0))
+
+room : (c : tie.After-slice-known)
+    → let a = c .before .before .before .args in
+    0 + length (textOf (a .a) (a .runin .now) (a .cycle .now)) ≤ length (a .out .now)
+room c =
+    let s = c .before .before .before in
+    let a = s .args in
+    omega (
+      arith,
+      s .pre,
+      text-length (a .a) (a .runin .now) (a .cycle .now) (figures-short c)
+          (λ i. omega (arith, c .before .before .shared-slice-known .given i))
+          (λ i. omega (arith, c .before .shared-slice-known2 .given i)),
+    )
+
+put-figures-requires : tie.Need-put-figures-requires
+put-figures-requires c κs = omega (arith, figures-short (c .before), c .before .before .before .before .pre)
+
+slice-aggregate-put-list-line : tie.Need-slice-aggregate-put-list-line
+slice-aggregate-put-list-line c = search needs
+
+put-list-line-requires : tie.Need-put-list-line-requires
+unfolding textOf
+put-list-line-requires c κs =
+    let a = c .before .before .before .before .before .before .before .before .before .args in
+    second-room (figures (a .a)) (keyLine runinKey (joined (a .runin .now))) (keyLine loopKey (joined (a .cycle .now)))
+    (room (c .before .before .before .before .before .before))
+    (c .before .before .before .before .put-figures .ensures)
+
+slice-aggregate-put-list-line-2 : tie.Need-slice-aggregate-put-list-line-2
+slice-aggregate-put-list-line-2 c = search needs
+
+put-list-line-requires-2 : tie.Need-put-list-line-requires-2
+unfolding textOf
+put-list-line-requires-2 c κs =
+    let a = c .before .before .before .before .before .before .before .before .before .before .before .before .before .before .args in
+    third-room (figures (a .a)) (keyLine runinKey (joined (a .runin .now))) (keyLine loopKey (joined (a .cycle .now)))
+    (room (c .before .before .before .before .before .before .before .before .before .before .before))
+    (c .before .before .before .before .before .before .before .before .before .put-figures .ensures)
+    (c .before .before .before .before .put-list-line .ensures)
+
+same-length : tie.Need-same-length
+same-length c = search needs
+
+returns : tie.Need-returns
+unfolding textOf
+returns c =
+    let a = c .before .before .before .before .before .before .before .before .before .before .before .before .before .before .before .before .before .args in
+    wrote-front
+    (wrote-three (figures (a .a)) (keyLine runinKey (joined (a .runin .now))) (keyLine loopKey (joined (a .cycle .now)))
+    (room (c .before .before .before .before .before .before .before .before .before .before .before .before .before .before))
+    (c .before .before .before .before .before .before .before .before .before .before .before .before .put-figures .ensures)
+    (c .before .before .before .before .before .before .before .put-list-line .ensures)
+    (c .before .before .put-list-line2 .ensures))
+
+pub write-text-spec : {M : Type 1} → statement M
+write-text-spec =
+    tie.close
+    (tie.spec
+    put-figures-requires
+    slice-aggregate-put-list-line
+    put-list-line-requires
+    slice-aggregate-put-list-line-2
+    put-list-line-requires-2
+    same-length
+    returns)

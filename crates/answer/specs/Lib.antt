@@ -1,0 +1,4 @@
+pub mod Over
+pub mod Block
+pub mod Decimal
+pub mod Text
