@@ -156,7 +156,8 @@ fn put_figures(a: Answer, out: &mut [u8]) -> usize
 // The later bytes of `out` are unchanged. Four bytes are room for a place with its comma.
 pub fn write_text(a: Answer, runin: &[u8], cycle: &[u8], out: &mut [u8]) -> usize
     requires { ⌜ 128 + 4 * (length (now runin) + length (now cycle)) ≤ length (now out) ⌝ }
-    ensures { λ r. ⌜ (r ≡ length (textOf a (now (runin .entry)) (now (cycle .entry)))) × (now (out .exit) ≡ textOf a (now (runin .entry)) (now (cycle .entry)) ++ drop r (now (out .entry))) ⌝ }
+    ensures { λ r. ⌜ r ≡ length (textOf a (now (runin .entry)) (now (cycle .entry))) ⌝ }
+    ensures { λ r. ⌜ now (out .exit) ≡ textOf a (now (runin .entry)) (now (cycle .entry)) ++ drop r (now (out .entry)) ⌝ }
 {
     let mut at = put_figures(a, out);
     at = put_list_line(out, at, b"runin=", runin);

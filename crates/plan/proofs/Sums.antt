@@ -1,9 +1,10 @@
 -- Laws of sums and of kept bytes.
 --   sum-le                     == a sum of smaller terms is smaller
+--   sum-change                 == a sum in which one term is another
 --   keeps-bit                  == equal tests of two kept bytes, equal bits
 --   kept-ext                   == kept bytes below 2 ^ n that agree on n rules are equal
 use mathlib.Core.Path.{_≡_, sym, _∙_}
-use Prim.Native.Nat.{ℕ, zero, suc, _^_, _≤_, _<_}
+use Prim.Native.Nat.{ℕ, zero, suc, _+_, _^_, _≤_, _<_}
 use native.Mathlib.Decide.{decLt, ℕ-discrete}
 use native.Mathlib.Omega.{arith}
 use borrow.Author.Tests.{eqb-true, eq-eqb}
@@ -15,6 +16,19 @@ pub sum-le : (n : ℕ) (f g : ℕ → ℕ) → ((i : ℕ) → i < n → f i ≤ 
 unfolding sumBelow
 sum-le zero f g h = omega arith
 sum-le (suc n) f g h = omega (arith, sum-le n f g (λ i l. h i (omega arith)), h n (omega arith))
+
+pub sum-change : (n u : ℕ) (f g : ℕ → ℕ) → u < n → ((i : ℕ) → (i ≡ u → ⊥) → g i ≡ f i) → sumBelow n g + f u ≡ sumBelow n f + g u
+unfolding sumBelow
+sum-change zero u f g h same = absurd (omega arith)
+sum-change (suc n) u f g h same = by (ℕ-discrete u n) (sum-change n u f g)
+  where
+    by : Dec (u ≡ n) → (u < n → ((i : ℕ) → (i ≡ u → ⊥) → g i ≡ f i) → sumBelow n g + f u ≡ sumBelow n f + g u)
+        → sumBelow n g + g n + f u ≡ sumBelow n f + f n + g u
+    by (yes e) ih =
+        let le = sum-le n f g (λ i l. omega (arith, same i (λ q. omega arith))) in
+        let ge = sum-le n g f (λ i l. omega (arith, same i (λ q. omega arith))) in
+        rw e (omega arith)
+    by (no d) ih = omega (arith, ih (omega arith) same, same n (λ q. d (sym q)))
 
 pub keeps-bit : (k k′ i : ℕ) → keeps k i ≡ keeps k′ i → bit k i ≡ bit k′ i
 keeps-bit k k′ i e = by (ℕ-discrete (bit k i) 1) (ℕ-discrete (bit k′ i) 1)

@@ -2,17 +2,17 @@
 -- then the last digit are those of the number (`decimal-more`), one more than those of the tenth.
 use mathlib.Core.Path.{_≡_}
 use mathlib.Core.List.{List, [], _∷_}
+use Prim.Native.Nat.{ℕ, _+_, _/_, _%_, _≤_, _<_}
 use native.Mathlib.Nat.{mod-lt}
 use native.Mathlib.Omega.{arith}
 use borrow.Author.Needs.{needs}
+use borrow.Fn.Kinds.{In}
+use borrow.Fn.PlainCycle.{Measures, is, falls, and}
 use lib.ListN.{length}
 use Rattle.answer.specs.Decimal.{decimal}
 use Rattle.answer.specs.Over.{Wrote}
 use Rattle.answer.proofs.Decimals.{decimal-small, decimal-more, decimal-longer, decimal-some}
 use Rattle.answer.proofs.Overs.{wrote-both}
-use Prim.Native.Nat.{ℕ, _+_, _/_, _%_, _≤_, _<_}
-use borrow.Fn.Kinds.{In}
-use borrow.Fn.PlainCycle.{Measures, is, falls, and}
 use Rattle.answer.proofs.put_decimal.Reads as put-decimal
 use Rattle.answer.proofs.put_decimal.Kinds as put-decimal-kinds
 use Rattle.answer.proofs.+put_decimal.Lts-put_decimal as put-decimal-lts
@@ -47,7 +47,7 @@ put-decimal-glyph-requires : (t : ℕ) → put-decimal-lts.Need-glyph-requires (
   put-decimal-below t,
   put-decimal.Post,
 ) (put-decimal-at t) put-decimal.Post
-put-decimal-glyph-requires t c κs = c .before .if1 .taken
+put-decimal-glyph-requires t c κs = omega arith
 
 put-decimal-put-byte-requires : (t : ℕ) → put-decimal-lts.Need-put-byte-requires (
   glyph-reads.Asked,
@@ -58,8 +58,8 @@ put-decimal-put-byte-requires : (t : ℕ) → put-decimal-lts.Need-put-byte-requ
   put-decimal.Post,
 ) (put-decimal-at t) put-decimal.Post
 put-decimal-put-byte-requires t c κs =
-    let a = c .before .before .before .before .args in
-    omega (arith, decimal-some (a .x), c .before .before .before .before .pre .1)
+    let s = c .before .before .before .before in
+    omega (arith, decimal-some (s .args .x), s .pre .1)
 
 put-decimal-same-length : (t : ℕ) → put-decimal-lts.Need-same-length (
   glyph-reads.Asked,
@@ -80,8 +80,10 @@ put-decimal-returns : (t : ℕ) → put-decimal-lts.Need-returns (
   put-decimal.Post,
 ) (put-decimal-at t) put-decimal.Post
 put-decimal-returns t c =
-    let a = c .before .before .before .before .before .before .before .args in
-    rw (decimal-small (a .x) (c .before .before .before .before .before .if1 .taken), ← c .before .before .before .glyph .ensures) (c .before .before .put-byte .ensures)
+    let c₁ = c .before .before in
+    let g = c₁ .before in
+    let s = g .before .before .before .before in
+    rw (decimal-small (s .args .x) (omega arith), ← g .glyph .ensures) (c₁ .put-byte .ensures)
 
 put-decimal-put-decimal-requires : (t : ℕ) → put-decimal-lts.Need-put-decimal-requires (
   glyph-reads.Asked,
@@ -92,9 +94,9 @@ put-decimal-put-decimal-requires : (t : ℕ) → put-decimal-lts.Need-put-decima
   put-decimal.Post,
 ) (put-decimal-at t) put-decimal.Post
 put-decimal-put-decimal-requires t c κs =
-    let a = c .before .before .before .args in
-    let big : 10 ≤ a .x = c .before .if1 .left in
-    (omega (arith, c .before .before .before .pre .0), omega (arith, decimal-longer (a .x) big, c .before .before .before .pre .1))
+    let s = c .before .before .before in
+    let big : 10 ≤ s .args .x = omega arith in
+    (omega (arith, s .pre .0), omega (arith, decimal-longer (s .args .x) big, s .pre .1))
 
 put-decimal-glyph-requires-2 : (t : ℕ) → put-decimal-lts.Need-glyph-requires-2 (
   glyph-reads.Asked,
@@ -115,8 +117,10 @@ put-decimal-put-byte-requires-2 : (t : ℕ) → put-decimal-lts.Need-put-byte-re
   put-decimal.Post,
 ) (put-decimal-at t) put-decimal.Post
 put-decimal-put-byte-requires-2 t c κs =
-    let a = c .before .before .before .before .before .before .before .before .args in
-    omega (arith, decimal-longer (a .x) (c .before .before .before .before .before .before .if1 .left), c .before .before .before .before .before .before .before .before .pre .1, c .before .before .before .before .put-decimal .ensures .place)
+    let c₁ = c .before .before .before .before in
+    let s = c₁ .before .before .before .before in
+    let big : 10 ≤ s .args .x = omega arith in
+    omega (arith, decimal-longer (s .args .x) big, s .pre .1, c₁ .put-decimal .ensures .place)
 
 put-decimal-same-length-2 : (t : ℕ) → put-decimal-lts.Need-same-length-2 (
   glyph-reads.Asked,
@@ -137,8 +141,12 @@ put-decimal-returns-2 : (t : ℕ) → put-decimal-lts.Need-returns-2 (
   put-decimal.Post,
 ) (put-decimal-at t) put-decimal.Post
 put-decimal-returns-2 t c =
-    let a = c .before .before .before .before .before .before .before .before .before .before .before .args in
-    last (a .x) (c .before .before .before .before .before .before .before .before .before .if1 .left) (c .before .before .before .before .before .before .before .before .before .before .before .pre .1) (c .before .before .before .before .before .before .before .put-decimal .ensures) (c .before .before .before .glyph2 .ensures) (c .before .before .put-byte2 .ensures)
+    let c₂ = c .before .before in
+    let g = c₂ .before in
+    let c₁ = g .before .before .before .before in
+    let s = c₁ .before .before .before .before in
+    last (s .args .x) (omega arith) (s .pre .1) (c₁ .put-decimal .ensures) (g .glyph2 .ensures)
+    (c₂ .put-byte2 .ensures)
 
 pub +put-decimal-spec : {M : Type 1} → statement M
 +put-decimal-spec = close μ-put-decimal λ t. put-decimal-lts.spec (

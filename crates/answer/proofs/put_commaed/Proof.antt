@@ -16,7 +16,8 @@ use Rattle.answer.proofs.put_commaed.Tie as tie
 
 module _ {b : List ℕ} {at : ℕ} {text out : List ℕ} {next : ℕ} (places : List ℕ) (i : ℕ) where
   module _ (h : i < length places) (l : Left b at text out next (commaed (drop i places))) where
-    from-comma : Left b at text out next ((44 ∷ []) ++ (decimal (getD places i 0) ++ commaed (drop (i + 1) places)))
+    from-comma : Left b at text out next
+        ((44 ∷ []) ++ (decimal (getD places i 0) ++ commaed (drop (i + 1) places)))
     from-comma = rw (commaed-next places i h) at l
 
     comma-room : next < length out
@@ -51,8 +52,10 @@ loop-holds c =
 
 put-byte-requires : tie.Need-put-byte-requires Inv-loop μ-loop
 put-byte-requires c κs =
-    let l = c .before .before .loop in
-    comma-room (c .before .before .before .before .before .args .places .now) (l .i) (c .before .loop-test .taken) (l .inv .1)
+    let t = c .before in
+    let l = t .before in
+    let s = l .before .before .before in
+    comma-room (s .args .places .now) (l .loop .i) (t .loop-test .taken) (l .loop .inv .1)
 
 shared-slice-read-wide : tie.Need-shared-slice-read-wide Inv-loop μ-loop
 shared-slice-read-wide c = search needs
@@ -62,9 +65,12 @@ wide-requires c κs = search needs
 
 put-decimal-requires : tie.Need-put-decimal-requires Inv-loop μ-loop
 put-decimal-requires c κs =
-    let l = c .before .before .before .before .before .before .before .before .loop in
+    let c₁ = c .before .before .before .before .before in
+    let t = c₁ .before .before in
+    let l = t .before in
+    let s = l .before .before .before in
     rw (c .wide .ensures)
-    (number-room (c .before .before .before .before .before .before .before .before .before .before .before .args .places .now) (l .i) (c .before .before .before .before .before .before .before .loop-test .taken) (l .inv .1) (c .before .before .before .before .before .put-byte .ensures))
+    (number-room (s .args .places .now) (l .loop .i) (t .loop-test .taken) (l .loop .inv .1) (c₁ .put-byte .ensures))
 
 add-i : tie.Need-add-i Inv-loop μ-loop
 add-i c = search needs
@@ -74,11 +80,16 @@ loop-less c = search needs
 
 loop-again : tie.Need-loop-again Inv-loop μ-loop
 loop-again c =
-    let l = c .before .before .before .before .before .before .before .before .before .before .before .loop in (
+    let c₂ = c .before .before in
+    let w = c₂ .before in
+    let c₁ = w .before .before .before .before .before in
+    let t = c₁ .before .before in
+    let l = t .before in
+    let s = l .before .before .before in (
       omega arith,
-      turn (c .before .before .before .before .before .before .before .before .before .before .before .before .before .before .args .places .now) (l .i) (c .before .before .before .before .before .before .before .before .before .before .loop-test .taken) (l .inv .1) (c .before .before .before .before .before .before .before .before .put-byte .ensures)
-          (c .before .before .before .wide .ensures)
-          (c .before .before .put-decimal .ensures),
+      turn (s .args .places .now) (l .loop .i) (t .loop-test .taken) (l .loop .inv .1) (c₁ .put-byte .ensures)
+          (w .wide .ensures)
+          (c₂ .put-decimal .ensures),
     )
 
 same-length : tie.Need-same-length Inv-loop μ-loop
@@ -86,8 +97,9 @@ same-length c = c .before .loop .inv .1 .size
 
 returns : tie.Need-returns Inv-loop μ-loop
 returns c =
-    let l = c .before .loop in
-    end (c .before .before .before .before .args .places .now) (l .i) (c .loop-test .left) (l .inv .1)
+    let l = c .before in
+    let s = l .before .before .before in
+    end (s .args .places .now) (l .loop .i) (c .loop-test .left) (l .loop .inv .1)
 
 pub put-commaed-spec : {M : Type 1} → statement M
 put-commaed-spec =

@@ -2,13 +2,13 @@
 use mathlib.Core.List.{List, _++_}
 use Prim.Native.Nat.{ℕ, _+_, _≤_}
 use native.Mathlib.Omega.{arith}
+use borrow.Author.Needs.{needs}
 use lib.ListN.{length}
 use Rattle.answer.specs.Decimal.{decimal}
 use Rattle.answer.specs.Over.{Wrote, Left}
 use Rattle.answer.specs.Text.{keyLine, answerKey, lineKey, costKey, keptKey, figures}
 use Rattle.answer.specs.declared.Answer.{Answer}
 use Rattle.answer.proofs.Overs.{left-start, left-room, left-next, left-last}
-use borrow.Author.Needs.{needs}
 use Rattle.answer.proofs.put_figures.Statement.{statement}
 use Rattle.answer.proofs.put_figures.Tie as tie
 
@@ -69,38 +69,48 @@ slice-aggregate-put-number-line-2 c = search needs
 
 put-number-line-requires-2 : tie.Need-put-number-line-requires-2
 put-number-line-requires-2 c κs =
-    let s = c .before .before .before .before .before .before .before .before in
-    second-room (s .args .a) (s .args .out .now) (s .pre) (c .before .before .before .before .put-number-line .ensures)
+    let c₁ = c .before .before .before .before in
+    let s = c₁ .before .before .before .before in
+    second-room (s .args .a) (s .args .out .now) (s .pre) (c₁ .put-number-line .ensures)
 
 slice-aggregate-put-number-line-3 : tie.Need-slice-aggregate-put-number-line-3
 slice-aggregate-put-number-line-3 c = search needs
 
 put-number-line-requires-3 : tie.Need-put-number-line-requires-3
 put-number-line-requires-3 c κs =
-    let s = c .before .before .before .before .before .before .before .before .before .before .before .before .before in
-    third-room (s .args .a) (s .args .out .now) (s .pre) (c .before .before .before .before .before .before .before .before .before .put-number-line .ensures)
-    (c .before .before .before .before .put-number-line2 .ensures)
+    let c₂ = c .before .before .before .before in
+    let c₁ = c₂ .before .before .before .before .before in
+    let s = c₁ .before .before .before .before in
+    third-room (s .args .a) (s .args .out .now) (s .pre) (c₁ .put-number-line .ensures)
+    (c₂ .put-number-line2 .ensures)
 
 slice-aggregate-put-number-line-4 : tie.Need-slice-aggregate-put-number-line-4
 slice-aggregate-put-number-line-4 c = search needs
 
 put-number-line-requires-4 : tie.Need-put-number-line-requires-4
 put-number-line-requires-4 c κs =
-    let s = c .before .before .before .before .before .before .before .before .before .before .before .before .before .before .before .before .before .before in
-    fourth-room (s .args .a) (s .args .out .now) (s .pre) (c .before .before .before .before .before .before .before .before .before .before .before .before .before .before .put-number-line .ensures)
-    (c .before .before .before .before .before .before .before .before .before .put-number-line2 .ensures)
-    (c .before .before .before .before .put-number-line3 .ensures)
+    let c₃ = c .before .before .before .before in
+    let c₂ = c₃ .before .before .before .before .before in
+    let c₁ = c₂ .before .before .before .before .before in
+    let s = c₁ .before .before .before .before in
+    fourth-room (s .args .a) (s .args .out .now) (s .pre) (c₁ .put-number-line .ensures)
+    (c₂ .put-number-line2 .ensures)
+    (c₃ .put-number-line3 .ensures)
 
 same-length : tie.Need-same-length
 same-length c = search needs
 
 returns : tie.Need-returns
 returns c =
-    let s = c .before .before .before .before .before .before .before .before .before .before .before .before .before .before .before .before .before .before .before .before .before in
-    all (s .args .a) (s .args .out .now) (s .pre) (c .before .before .before .before .before .before .before .before .before .before .before .before .before .before .before .before .before .put-number-line .ensures)
-    (c .before .before .before .before .before .before .before .before .before .before .before .before .put-number-line2 .ensures)
-    (c .before .before .before .before .before .before .before .put-number-line3 .ensures)
-    (c .before .before .put-number-line4 .ensures)
+    let c₄ = c .before .before in
+    let c₃ = c₄ .before .before .before .before .before in
+    let c₂ = c₃ .before .before .before .before .before in
+    let c₁ = c₂ .before .before .before .before .before in
+    let s = c₁ .before .before .before .before in
+    all (s .args .a) (s .args .out .now) (s .pre) (c₁ .put-number-line .ensures)
+    (c₂ .put-number-line2 .ensures)
+    (c₃ .put-number-line3 .ensures)
+    (c₄ .put-number-line4 .ensures)
 
 pub put-figures-spec : {M : Type 1} → statement M
 put-figures-spec =

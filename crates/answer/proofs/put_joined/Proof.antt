@@ -1,18 +1,18 @@
 -- `put_joined` meets its contract: no place is no text, and else the first place and then the others, each behind a comma,
 -- are the text. The part of the list behind its first place is what dropping that place leaves.
-use mathlib.Core.Path.{_≡_, refl, sym}
+use mathlib.Core.Path.{_≡_, sym}
 use mathlib.Core.List.{List, [], _∷_, _++_}
 use Prim.Native.Nat.{ℕ, _+_, _-_, _≤_, _<_}
 use native.Mathlib.Nat.{add-zero}
 use native.Mathlib.Omega.{arith}
-use lib.ListN.{length, take, drop, getD, length-append, length-drop}
+use borrow.Author.Needs.{needs}
+use lib.ListN.{length, take, drop, getD, length-drop}
 use lib.Seq.{take-all}
 use Rattle.answer.specs.Decimal.{decimal}
 use Rattle.answer.specs.Over.{Wrote}
 use Rattle.answer.specs.Text.{commaed, joined}
 use Rattle.answer.proofs.Overs.{over-none, wrote-both, left-start, left-room, left-next}
 use Rattle.answer.proofs.Texts.{joined-first}
-use borrow.Author.Needs.{needs}
 use Rattle.answer.proofs.put_joined.Statement.{statement}
 use Rattle.answer.proofs.put_joined.Tie as tie
 
@@ -30,7 +30,8 @@ first places = decimal (getD places 0 0)
 abbrev others : List ℕ → List ℕ
 others places = commaed (drop 1 places)
 
-module _ (places : List ℕ) (some : 0 < length places) (b : List ℕ) (at : ℕ) (room : at + length (joined places) ≤ length b) where
+module _ (places : List ℕ) (some : 0 < length places) (b : List ℕ) (at : ℕ)
+    (room : at + length (joined places) ≤ length b) where
   room-both : at + length (first places ++ others places) ≤ length b
   room-both = rw (joined-first places some) at room
 
@@ -48,8 +49,8 @@ module _ (places : List ℕ) (some : 0 < length places) (b : List ℕ) (at : ℕ
 
 returns : tie.Need-returns
 returns c =
-    let a = c .before .before .before .args in
-    none (a .out .now) (a .at) (a .places .now) (c .if1 .taken)
+    let s = c .before .before .before in
+    none (s .args .out .now) (s .args .at) (s .args .places .now) (c .if1 .taken)
 
 shared-slice-read-wide : tie.Need-shared-slice-read-wide
 shared-slice-read-wide c = search needs
@@ -59,8 +60,8 @@ wide-requires c κs = search needs
 
 put-decimal-requires : tie.Need-put-decimal-requires
 put-decimal-requires c κs =
-    let a = c .before .before .before .before .before .before .args in
-    rw (c .wide .ensures) (first-room (a .places .now) (omega arith) (a .out .now) (a .at) (c .before .before .before .before .before .before .pre))
+    let s = c .before .before .before .before .before .before in
+    rw (c .wide .ensures) (first-room (s .args .places .now) (omega arith) (s .args .out .now) (s .args .at) (s .pre))
 
 sub-put-commaed : tie.Need-sub-put-commaed
 sub-put-commaed c = search needs
@@ -73,18 +74,27 @@ part-put-commaed-end c = search needs
 
 put-commaed-requires : tie.Need-put-commaed-requires
 put-commaed-requires c κs =
-    let a = c .before .before .before .before .before .before .before .before .before .before .before .args in
+    let c₁ = c .before .before .before .before in
+    let w = c₁ .before in
+    let s = w .before .before .before .before .before .before in
     rw part-to-end
-    (others-room (a .places .now) (omega arith) (a .out .now) (a .at) (c .before .before .before .before .before .before .before .before .before .before .before .pre) (c .before .before .before .before .before .wide .ensures) (c .before .before .before .before .put-decimal .ensures))
+    (others-room (s .args .places .now) (omega arith) (s .args .out .now) (s .args .at) (s .pre)
+    (w .wide .ensures)
+    (c₁ .put-decimal .ensures))
 
 same-length : tie.Need-same-length
 same-length c = search needs
 
 returns-2 : tie.Need-returns-2
 returns-2 c =
-    let a = c .before .before .before .before .before .before .before .before .before .before .before .before .before .before .args in
-    both (a .places .now) (omega arith) (a .out .now) (a .at) (c .before .before .before .before .before .before .before .before .before .before .before .before .before .before .pre) (c .before .before .before .before .before .before .before .before .wide .ensures) (c .before .before .before .before .before .before .before .put-decimal .ensures)
-    (rw part-to-end at (c .before .before .put-commaed .ensures))
+    let c₂ = c .before .before in
+    let c₁ = c₂ .before .before .before .before .before in
+    let w = c₁ .before in
+    let s = w .before .before .before .before .before .before in
+    both (s .args .places .now) (omega arith) (s .args .out .now) (s .args .at) (s .pre)
+    (w .wide .ensures)
+    (c₁ .put-decimal .ensures)
+    (rw part-to-end at (c₂ .put-commaed .ensures))
 
 pub put-joined-spec : {M : Type 1} → statement M
 put-joined-spec =

@@ -1,32 +1,34 @@
 -- `put_list_line` meets its contract: a line is a text of three parts, key, places and end.
 use mathlib.Core.List.{[], _∷_}
 use native.Mathlib.Omega.{arith}
+use borrow.Author.Needs.{needs}
 use Rattle.answer.specs.Text.{joined, keyLine}
 use Rattle.answer.proofs.Overs.{second-room, third-room, wrote-three}
 use Rattle.answer.proofs.Texts.{line-length}
-use borrow.Author.Needs.{needs}
 use Rattle.answer.proofs.put_list_line.Statement.{statement}
 use Rattle.answer.proofs.put_list_line.Tie as tie
 
 put-bytes-requires : tie.Need-put-bytes-requires
 put-bytes-requires c κs =
-    let a = c .before .before .before .before .args in
-    omega (arith, line-length (a .key .now) (joined (a .places .now)), c .before .before .before .before .pre)
+    let s = c .before .before .before .before in
+    omega (arith, line-length (s .args .key .now) (joined (s .args .places .now)), s .pre)
 
 put-joined-requires : tie.Need-put-joined-requires
 unfolding keyLine
 put-joined-requires c κs =
-    let a = c .before .before .before .before .before .before .before .before .args in
-    second-room (a .key .now) (joined (a .places .now)) (10 ∷ []) (c .before .before .before .before .before .before .before .before .pre) (c .before .before .before .put-bytes .ensures)
+    let c₁ = c .before .before .before in
+    let s = c₁ .before .before .before .before .before in
+    second-room (s .args .key .now) (joined (s .args .places .now)) (10 ∷ []) (s .pre) (c₁ .put-bytes .ensures)
 
 put-byte-requires : tie.Need-put-byte-requires
 unfolding keyLine
 put-byte-requires c κs =
-    let a = c .before .before .before .before .before .before .before .before .before .before .before .before .args in
+    let c₂ = c .before .before .before in
+    let c₁ = c₂ .before .before .before .before in
+    let s = c₁ .before .before .before .before .before in
     omega (
       arith,
-      third-room (a .key .now) (joined (a .places .now)) (10 ∷ []) (c .before .before .before .before .before .before .before .before .before .before .before .before .pre) (c .before .before .before .before .before .before .before .put-bytes .ensures)
-          (c .before .before .before .put-joined .ensures),
+      third-room (s .args .key .now) (joined (s .args .places .now)) (10 ∷ []) (s .pre) (c₁ .put-bytes .ensures) (c₂ .put-joined .ensures),
     )
 
 same-length : tie.Need-same-length
@@ -35,10 +37,13 @@ same-length c = search needs
 returns : tie.Need-returns
 unfolding keyLine
 returns c =
-    let a = c .before .before .before .before .before .before .before .before .before .before .before .before .before .before .before .args in
-    wrote-three (a .key .now) (joined (a .places .now)) (10 ∷ []) (c .before .before .before .before .before .before .before .before .before .before .before .before .before .before .before .pre) (c .before .before .before .before .before .before .before .before .before .before .put-bytes .ensures)
-    (c .before .before .before .before .before .before .put-joined .ensures)
-    (c .before .before .put-byte .ensures)
+    let c₃ = c .before .before in
+    let c₂ = c₃ .before .before .before .before in
+    let c₁ = c₂ .before .before .before .before in
+    let s = c₁ .before .before .before .before .before in
+    wrote-three (s .args .key .now) (joined (s .args .places .now)) (10 ∷ []) (s .pre) (c₁ .put-bytes .ensures)
+    (c₂ .put-joined .ensures)
+    (c₃ .put-byte .ensures)
 
 pub put-list-line-spec : {M : Type 1} → statement M
 put-list-line-spec =

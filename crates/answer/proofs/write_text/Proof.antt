@@ -2,11 +2,11 @@
 -- enough, since a number has at most ten digits and a place three and a comma.
 use Prim.Native.Nat.{_+_, _≤_}
 use native.Mathlib.Omega.{arith}
+use borrow.Author.Needs.{needs}
 use lib.ListN.{length}
 use Rattle.answer.specs.Text.{joined, keyLine, runinKey, loopKey, figures, textOf}
 use Rattle.answer.proofs.Overs.{second-room, third-room, wrote-three, wrote-front}
 use Rattle.answer.proofs.Texts.{figures-length, text-length}
-use borrow.Author.Needs.{needs}
 use Rattle.answer.proofs.write_text.Statement.{statement}
 use Rattle.answer.proofs.write_text.Tie as tie
 
@@ -39,10 +39,12 @@ slice-aggregate-put-list-line c = search needs
 put-list-line-requires : tie.Need-put-list-line-requires
 unfolding textOf
 put-list-line-requires c κs =
-    let a = c .before .before .before .before .before .before .before .before .before .args in
+    let c₁ = c .before .before .before .before in
+    let k = c₁ .before .before in
+    let a = k .before .before .before .args in
     second-room (figures (a .a)) (keyLine runinKey (joined (a .runin .now))) (keyLine loopKey (joined (a .cycle .now)))
-    (room (c .before .before .before .before .before .before))
-    (c .before .before .before .before .put-figures .ensures)
+    (room k)
+    (c₁ .put-figures .ensures)
 
 slice-aggregate-put-list-line-2 : tie.Need-slice-aggregate-put-list-line-2
 slice-aggregate-put-list-line-2 c = search needs
@@ -50,11 +52,14 @@ slice-aggregate-put-list-line-2 c = search needs
 put-list-line-requires-2 : tie.Need-put-list-line-requires-2
 unfolding textOf
 put-list-line-requires-2 c κs =
-    let a = c .before .before .before .before .before .before .before .before .before .before .before .before .before .before .args in
+    let c₂ = c .before .before .before .before in
+    let c₁ = c₂ .before .before .before .before .before in
+    let k = c₁ .before .before in
+    let a = k .before .before .before .args in
     third-room (figures (a .a)) (keyLine runinKey (joined (a .runin .now))) (keyLine loopKey (joined (a .cycle .now)))
-    (room (c .before .before .before .before .before .before .before .before .before .before .before))
-    (c .before .before .before .before .before .before .before .before .before .put-figures .ensures)
-    (c .before .before .before .before .put-list-line .ensures)
+    (room k)
+    (c₁ .put-figures .ensures)
+    (c₂ .put-list-line .ensures)
 
 same-length : tie.Need-same-length
 same-length c = search needs
@@ -62,13 +67,17 @@ same-length c = search needs
 returns : tie.Need-returns
 unfolding textOf
 returns c =
-    let a = c .before .before .before .before .before .before .before .before .before .before .before .before .before .before .before .before .before .args in
+    let c₃ = c .before .before in
+    let c₂ = c₃ .before .before .before .before .before in
+    let c₁ = c₂ .before .before .before .before .before in
+    let k = c₁ .before .before in
+    let a = k .before .before .before .args in
     wrote-front
     (wrote-three (figures (a .a)) (keyLine runinKey (joined (a .runin .now))) (keyLine loopKey (joined (a .cycle .now)))
-    (room (c .before .before .before .before .before .before .before .before .before .before .before .before .before .before))
-    (c .before .before .before .before .before .before .before .before .before .before .before .before .put-figures .ensures)
-    (c .before .before .before .before .before .before .before .put-list-line .ensures)
-    (c .before .before .put-list-line2 .ensures))
+    (room k)
+    (c₁ .put-figures .ensures)
+    (c₂ .put-list-line .ensures)
+    (c₃ .put-list-line2 .ensures))
 
 pub write-text-spec : {M : Type 1} → statement M
 write-text-spec =

@@ -1,0 +1,4 @@
+pub mod Colours
+pub mod Course
+pub mod Component
+pub mod Drive
