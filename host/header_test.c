@@ -1,0 +1,74 @@
+/*
+** header_test.c - the inline functions of plantour.h, and the entry's edges
+**
+** Ends with 0 and says nothing if all is well.
+*/
+#include "plantour.h"
+
+#include <assert.h>
+#include <string.h>
+
+static void decodes_the_block(void) {
+  const uint8_t block[PLANTOUR_ANSWER_BYTES] = {
+    3, 0x85, 3, 0, 1, 2, 3, 0x84, 5, 6, 7, 0x88, 0xff, 7, 0, 0x50,
+  };
+  assert(plantour_number(block) == PLANTOUR_RANGE);
+  assert(plantour_kept(block) == 0x85 && plantour_count(block) == 3);
+  assert(plantour_keeps(block, 1) && !plantour_keeps(block, 2));
+  assert(plantour_keeps(block, 3) && plantour_keeps(block, 8));
+  assert(plantour_line(block) == 0x84030201u);
+  assert(plantour_cost(block) == 0x88070605u);
+  assert(plantour_runin_length(block) == 2047);
+  assert(plantour_loop_length(block) == 20480);
+}
+
+/* The part from step t of run-in 5,6 and loop 7,8,9. */
+static void upcoming_is(uint64_t t, const char *expected) {
+  static const uint8_t runin[] = {5, 6}, loop[] = {7, 8, 9};
+  size_t length;
+  const uint8_t *part = plantour_upcoming(runin, 2, loop, 3, t, &length);
+  assert(length == strlen(expected) && memcmp(part, expected, length) == 0);
+}
+
+static void serves_upcoming_places(void) {
+  upcoming_is(0, "\5\6");
+  upcoming_is(1, "\6");
+  upcoming_is(2, "\7\10\11");
+  upcoming_is(6, "\10\11");
+  upcoming_is(UINT64_MAX, "\10\11");
+  uint8_t none = 0;
+  size_t length = 1;
+  plantour_upcoming(&none, 1, &none, 0, UINT64_MAX, &length);
+  assert(length == 0);
+}
+
+/* One place with a road to itself: N is 1, and the loop bound 2. */
+static const char plan[] =
+  "tour=1\nmarks=0\nplaces=1\nlabel=0\nstart=0\nroads=1\nroad=0,0\n"
+  "hard=1\nfirst=0\naccept=1\nmoves=1\nmove=0,0,0,0\nrules=0\n";
+
+static void plans_with_the_least_buffers(void) {
+  uint8_t answer[PLANTOUR_ANSWER_BYTES + 1], runin[1], loop[3];
+  memset(answer, 0xaa, sizeof answer);
+  memset(loop, 0xaa, sizeof loop);
+  const uint8_t *bytes = (const uint8_t *)plan;
+  size_t length = sizeof plan - 1;
+  assert(plan_tour(bytes, length, answer, 15, runin, 1, loop, 2) == PLANTOUR_BLOCK);
+  assert(answer[0] == 0xaa && loop[0] == 0xaa);
+  assert(plan_tour(bytes, length, answer, 16, runin, 1, loop, 1) == PLANTOUR_BUFFER);
+  assert(answer[0] == PLANTOUR_BUFFER && loop[0] == 0xaa);
+  assert(plan_tour(bytes, length, answer, 16, runin, 1, loop, 2) == PLANTOUR_OK);
+  assert(plantour_loop_length(answer) >= 1 && loop[0] == 0);
+  assert(plan_tour(bytes, length - 1, answer, 16, runin, 1, loop, 2) == PLANTOUR_FORM);
+  assert(plantour_line(answer) == 13);
+  assert(plan_tour(bytes, 0, answer, 16, runin, 0, loop, 0) == PLANTOUR_FORM);
+  assert(plantour_line(answer) == 1);
+  assert(answer[16] == 0xaa && loop[2] == 0xaa);
+}
+
+int main(void) {
+  decodes_the_block();
+  serves_upcoming_places();
+  plans_with_the_least_buffers();
+  return 0;
+}

@@ -1,0 +1,174 @@
+/*
+** plantour.h - endless tours for scripted test cars
+**
+** A plan file describes a map of places joined by one-way roads, one rule
+** that a tour must obey (the hard rule) and up to eight that it should (the
+** soft rules, each with a weight).  plan_tour() reads such a file and answers
+** with a tour of least cost: a run-in, driven once, and a loop, driven again
+** and again without end.  The cost is the sum of the weights of the soft
+** rules that the tour breaks.  Of two tours of equal cost the better one keeps
+** the lowest-numbered rule on which they differ.
+**
+** The caller lends the memory for the plan, the answer and the tour; the
+** library holds on to none of it after the call.
+**
+** A host needs this header and the archive, and no more:
+**
+**     gcc host.c libplanner.a
+*/
+#ifndef PLANTOUR_H
+#define PLANTOUR_H
+
+#include <stddef.h>
+#include <stdint.h>
+
+#ifdef __cplusplus
+extern "C" {
+#endif
+
+/*
+** Sizes, in bytes.
+**
+** A buffer pair of PLANTOUR_RUNIN_BYTES and PLANTOUR_LOOP_BYTES is enough for
+** every plan.  A host that knows its plan may lend less: with
+**
+**     N = places * (states of the hard rule)
+**                * (states + 1) of each soft rule
+**
+** and K soft rules, N bytes for the run-in and (K+2)*N for the loop.  N is at
+** most PLANTOUR_MAX_N, or the plan is refused.
+**
+** A longer plan than PLANTOUR_PLAN_BYTES is refused.  So a host may read a
+** file of unknown length into PLANTOUR_PLAN_BYTES + 1 bytes and pass what
+** fitted: whatever did not fit would have been refused just so.
+*/
+#define PLANTOUR_ANSWER_BYTES 16
+#define PLANTOUR_PLAN_BYTES   60000
+#define PLANTOUR_MAX_N        2048
+#define PLANTOUR_RUNIN_BYTES  2048
+#define PLANTOUR_LOOP_BYTES   20480
+
+/*
+** What plan_tour() returns.  Of several causes the first in this order counts:
+** PLANTOUR_BLOCK, PLANTOUR_LONG, the first faulty line (PLANTOUR_FORM before
+** PLANTOUR_RANGE on the same line), PLANTOUR_LARGE, PLANTOUR_BUFFER,
+** PLANTOUR_NONE.
+*/
+#define PLANTOUR_OK     0 /* a tour was written */
+#define PLANTOUR_LONG   1 /* the plan has more than PLANTOUR_PLAN_BYTES bytes */
+#define PLANTOUR_FORM   2 /* a line is missing, has another key or is not of
+                          ** the form asked for, or bytes follow the last
+                          ** line; the block names the line */
+#define PLANTOUR_RANGE  3 /* a number is outside its range; the block names
+                          ** the line */
+#define PLANTOUR_LARGE  4 /* N is above PLANTOUR_MAX_N */
+#define PLANTOUR_BUFFER 5 /* runin_len is below N or loop_len below (K+2)*N */
+#define PLANTOUR_NONE   6 /* the hard rule accepts no tour of this plan */
+#define PLANTOUR_BLOCK  7 /* answer_len is below PLANTOUR_ANSWER_BYTES */
+
+/*
+** Plans one tour.
+**
+** plan, plan_len      The bytes of the plan file; only read.  There is no
+**                     terminating zero.  plan_len may be 0 (and is then
+**                     refused with PLANTOUR_FORM on line 1).
+**
+** answer, answer_len  The answer block.  Its first 16 bytes are filled on
+**                     every return but PLANTOUR_BLOCK; later bytes are never
+**                     touched.
+**
+** runin, runin_len    The buffer for the run-in, one byte for each place.
+** loop, loop_len      The buffer for the loop, likewise.
+**                     On PLANTOUR_OK the first bytes of the two hold the tour;
+**                     its lengths are in the block.  The run-in may be empty,
+**                     the loop is not.  Bytes beyond those lengths are not
+**                     touched.  On any other return neither buffer is touched.
+**
+** No pointer may be null, not even one with a length of 0, and no two of the
+** four stretches may overlap.
+**
+** Returns one of the numbers above.  On PLANTOUR_BLOCK that number is the
+** whole answer and no byte at all has been written.  Otherwise the block has:
+**
+**     byte 0       the number returned
+**     byte 1       kept: bit i-1 is set if soft rule i accepts the tour
+**     byte 2       how many soft rules accept it
+**     byte 3       0
+**     bytes 4-7    the faulty line, counted from 1; 0 if no line is at fault
+**     bytes 8-11   cost
+**     bytes 12-13  places in the run-in
+**     bytes 14-15  places in the loop
+**
+** Numbers of several bytes have the lowest byte first.  On a refusal all but
+** the number and the line are 0; on PLANTOUR_OK the line is 0.
+*/
+uint32_t plan_tour(const uint8_t *plan, size_t plan_len,
+                   uint8_t *answer, size_t answer_len,
+                   uint8_t *runin, size_t runin_len,
+                   uint8_t *loop, size_t loop_len);
+
+/*
+** The parts of an answer block, on a machine of any byte order.
+*/
+static inline uint32_t plantour_number(const uint8_t *answer) {
+  return answer[0];
+}
+static inline uint32_t plantour_kept(const uint8_t *answer) {
+  return answer[1];
+}
+static inline uint32_t plantour_count(const uint8_t *answer) {
+  return answer[2];
+}
+static inline uint32_t plantour_line(const uint8_t *answer) {
+  return (uint32_t)answer[4] | (uint32_t)answer[5] << 8
+       | (uint32_t)answer[6] << 16 | (uint32_t)answer[7] << 24;
+}
+static inline uint32_t plantour_cost(const uint8_t *answer) {
+  return (uint32_t)answer[8] | (uint32_t)answer[9] << 8
+       | (uint32_t)answer[10] << 16 | (uint32_t)answer[11] << 24;
+}
+static inline size_t plantour_runin_length(const uint8_t *answer) {
+  return (size_t)answer[12] | (size_t)answer[13] << 8;
+}
+static inline size_t plantour_loop_length(const uint8_t *answer) {
+  return (size_t)answer[14] | (size_t)answer[15] << 8;
+}
+
+/* Whether soft rule 'rule', from 1 to 8, accepts the tour. */
+static inline int plantour_keeps(const uint8_t *answer, unsigned rule) {
+  return answer[1] >> (rule - 1) & 1;
+}
+
+/*
+** Upcoming places.  Step 0 is at the start, step t at the place after t roads.
+** This gives the places of step t and the steps after it, as far as they lie
+** side by side in memory: the rest of the run-in while it lasts, later the rest of the
+** present turn of the loop.  To look farther ahead ask again with t plus the
+** part's length.
+**
+** runin_length and loop_length are the tour's, not the buffers'.  The part's
+** length is stored in *part_length.  The result points into runin or loop and
+** is good as long as they are; nothing is copied.  With a loop of length 0,
+** which no tour has, the part is empty once the run-in is over.
+*/
+static inline const uint8_t *plantour_upcoming(
+    const uint8_t *runin, size_t runin_length,
+    const uint8_t *loop, size_t loop_length,
+    uint64_t t, size_t *part_length) {
+  size_t from = 0;
+  if (t < runin_length) {
+    *part_length = runin_length - (size_t)t;
+    return runin + (size_t)t;
+  }
+  if (loop_length > 0) {
+    from = (size_t)((t - runin_length) % loop_length);
+  }
+  *part_length = loop_length - from;
+  return loop + from;
+}
+
+#ifdef __cplusplus
+}
+#endif
+
+#endif /* PLANTOUR_H */

@@ -1,0 +1,15 @@
+//! PLANNER_ARCHIVE, if set, names the planner's static library to compare with.
+
+fn main() {
+    println!("cargo::rustc-check-cfg=cfg(archive)");
+    println!("cargo::rerun-if-env-changed=PLANNER_ARCHIVE");
+    if let Ok(path) = std::env::var("PLANNER_ARCHIVE") {
+        assert!(
+            std::path::Path::new(&path).is_file(),
+            "no archive at {path}"
+        );
+        println!("cargo::rerun-if-changed={path}");
+        println!("cargo::rustc-cfg=archive");
+        println!("cargo::rustc-link-arg={path}");
+    }
+}

@@ -1,0 +1,130 @@
+//! Times the library beside the reference, in one process, on large plans.
+//!
+//!     bench [--plans COUNT] [--size N]
+//!
+//! For each shape, COUNT plans (9) with N near 2,048 or the number given: the
+//! median and the worst time of a plan, in microseconds, and how often the
+//! reference's time the library's is. Then how the median grows with N, and
+//! the power of N by which it does so from the third size to the last.
+
+use reference::entry;
+use reference::library::{ENTRY, NAME};
+use reference::random::Random;
+use reference::reader::read;
+use reference::reply::call;
+use reference::shapes::{large, Shape, SHAPES};
+use std::time::Instant;
+
+/// Each plan is planned so often by each, in turns; the shortest time counts.
+const REPEATS: usize = 3;
+
+fn main() {
+    let (mut plans, mut size) = (9, 2_048);
+    let arguments: Vec<String> = std::env::args().skip(1).collect();
+    for pair in arguments.chunks(2) {
+        match (
+            pair[0].as_str(),
+            pair.get(1).and_then(|text| text.parse::<u64>().ok()),
+        ) {
+            ("--plans", Some(value)) if value > 0 => plans = value,
+            ("--size", Some(value)) if (64..=2_048).contains(&value) => size = value,
+            _ => {
+                eprintln!("usage: bench [--plans COUNT] [--size N], N from 64 to 2048");
+                std::process::exit(2);
+            }
+        }
+    }
+
+    println!("library: {NAME}; {plans} plans of each shape; microseconds");
+    println!(
+        "{:8} {:>5} {:>11} {:>11} {:>11} {:>11} {:>7} {:>7}",
+        "shape", "N", "ref median", "ref worst", "lib median", "lib worst", "median", "worst"
+    );
+    for shape in SHAPES {
+        let times = measure(shape, size, plans);
+        let (reference, library) = (&times.reference, &times.library);
+        println!(
+            "{:8} {:>5} {:>11.1} {:>11.1} {:>11.1} {:>11.1} {:>6.2}x {:>6.2}x",
+            shape.name(),
+            times.size,
+            median(reference),
+            worst(reference),
+            median(library),
+            worst(library),
+            median(library) / median(reference),
+            worst(library) / worst(reference),
+        );
+    }
+
+    println!("\ngrowth with N: median of the library (of the reference)");
+    for shape in SHAPES {
+        let mut row = format!("{:8}", shape.name());
+        let mut medians = Vec::new();
+        for size in [128, 256, 512, 1_024, 2_048] {
+            let times = measure(shape, size, plans.min(5));
+            let (library, reference) = (median(&times.library), median(&times.reference));
+            row += &format!(" {:>5}: {library:.0} ({reference:.0})", times.size);
+            medians.push((times.size as f64, library));
+        }
+        let [_, _, (n, before), .., (last_n, last)] = medians[..] else {
+            unreachable!()
+        };
+        println!(
+            "{row}  power {:.2}",
+            (last / before).log2() / (last_n / n).log2()
+        );
+    }
+}
+
+/// The times of each plan of one shape, and the median N.
+struct Times {
+    size: u64,
+    reference: Vec<f64>,
+    library: Vec<f64>,
+}
+
+fn measure(shape: Shape, size: u64, plans: u64) -> Times {
+    let mut times = Times {
+        size: 0,
+        reference: Vec::new(),
+        library: Vec::new(),
+    };
+    let mut sizes = Vec::new();
+    for seed in 0..plans {
+        let plan = large(shape, size, &mut Random::new(seed));
+        let text = plan.text().into_bytes();
+        assert_eq!(read(&text), Ok(plan.clone()));
+        sizes.push(plan.size());
+        let (mut reference, mut library) = (f64::INFINITY, f64::INFINITY);
+        for _ in 0..REPEATS {
+            reference = reference.min(time(&text, entry::plan_tour));
+            library = library.min(time(&text, |file, answer, run_in, cycle| {
+                call(ENTRY, file, answer, run_in, cycle)
+            }));
+        }
+        times.reference.push(reference);
+        times.library.push(library);
+    }
+    sizes.sort_unstable();
+    times.size = sizes[sizes.len() / 2];
+    times
+}
+
+fn time(file: &[u8], plan_tour: impl FnOnce(&[u8], &mut [u8], &mut [u8], &mut [u8]) -> u32) -> f64 {
+    let (mut answer, mut run_in, mut cycle) = ([0; 16], [0; 2_048], [0; 20_480]);
+    let begin = Instant::now();
+    let number = plan_tour(file, &mut answer, &mut run_in, &mut cycle);
+    let spent = begin.elapsed().as_secs_f64() * 1e6;
+    assert!(number == 0 || number == 6, "refusal {number}");
+    spent
+}
+
+fn median(times: &[f64]) -> f64 {
+    let mut times = times.to_vec();
+    times.sort_by(f64::total_cmp);
+    times[times.len() / 2]
+}
+
+fn worst(times: &[f64]) -> f64 {
+    times.iter().copied().fold(0.0, f64::max)
+}

@@ -1,0 +1,92 @@
+//! Tours found without any planning: all short ones, and some chance ones.
+
+use crate::plan::Plan;
+use crate::random::Random;
+use crate::tour::judge;
+
+/// The best of all tours up to some number of places.
+pub struct Search {
+    /// Every tour with at most so many places, run-in and loop together, was
+    /// judged.
+    pub places: usize,
+    /// What the best one keeps, if the hard rule accepts any.
+    pub kept: Option<u8>,
+    pub judged: usize,
+}
+
+/// Judges all tours of one place, of two, and so on, while the walks of one
+/// length are at most `walks` in number.
+pub fn all_short_tours(plan: &Plan, walks: usize, most_places: usize) -> Search {
+    let mut search = Search {
+        places: 0,
+        kept: None,
+        judged: 0,
+    };
+    let mut front = vec![vec![plan.start]];
+    while !front.is_empty() && front.len() <= walks && search.places < most_places {
+        for walk in &front {
+            for split in 0..walk.len() {
+                search.consider(plan, &walk[..split], &walk[split..]);
+            }
+        }
+        search.places += 1;
+        front = front.iter().flat_map(|walk| longer(plan, walk)).collect();
+    }
+    if front.is_empty() {
+        search.places = usize::MAX;
+    }
+    search
+}
+
+fn longer(plan: &Plan, walk: &[u8]) -> Vec<Vec<u8>> {
+    let here = walk[walk.len() - 1];
+    let places = 0..plan.labels.len() as u8;
+    let ways = places.filter(|&to| plan.roads.contains(&(here, to)));
+    ways.map(|to| [walk, &[to]].concat()).collect()
+}
+
+/// Judges tours made of chance walks from the start, closed where they can be.
+pub fn chance_tours(plan: &Plan, random: &mut Random, walks: usize, most_places: usize) -> Search {
+    let mut search = Search {
+        places: 0,
+        kept: None,
+        judged: 0,
+    };
+    let mut ways = vec![Vec::new(); plan.labels.len()];
+    for &(from, to) in &plan.roads {
+        ways[from as usize].push(to);
+    }
+    for _ in 0..walks {
+        let length = random.between(1, most_places);
+        let mut walk = vec![plan.start];
+        while walk.len() < length {
+            let out = &ways[walk[walk.len() - 1] as usize];
+            if out.is_empty() {
+                break;
+            }
+            walk.push(*random.pick(out));
+        }
+        let last = walk[walk.len() - 1];
+        let closings: Vec<usize> = (0..walk.len())
+            .filter(|&i| ways[last as usize].contains(&walk[i]))
+            .collect();
+        if !closings.is_empty() {
+            let split = *random.pick(&closings);
+            search.consider(plan, &walk[..split], &walk[split..]);
+        }
+    }
+    search
+}
+
+impl Search {
+    fn consider(&mut self, plan: &Plan, run_in: &[u8], cycle: &[u8]) {
+        let verdict = judge(plan, run_in, cycle);
+        if !verdict.is_tour {
+            return;
+        }
+        self.judged += 1;
+        if verdict.hard && self.kept.is_none_or(|held| plan.better(verdict.kept, held)) {
+            self.kept = Some(verdict.kept);
+        }
+    }
+}

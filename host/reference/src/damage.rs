@@ -1,0 +1,171 @@
+//! Faulty files, made from good ones. Some harms leave a file good; what each
+//! file deserves, the reader says.
+
+use crate::plan::MAX_PLAN_BYTES;
+use crate::random::Random;
+
+/// A harm's name, the harmed file, and the bytes to lie behind it in memory.
+pub fn damage(text: &[u8], random: &mut Random) -> (&'static str, Vec<u8>, Vec<u8>) {
+    let mut file = text.to_vec();
+    let mut behind = b"0,0\nmove=0,0,0,0\n".to_vec();
+    let at = random.below(file.len());
+    let kind = match random.below(20) {
+        0 => {
+            file[at] ^= 1 << random.below(8);
+            "bit flipped"
+        }
+        1 => {
+            file[at] = *random.pick(b"0123456789,=\n\r \tabmz-+.\0\xff");
+            "byte replaced"
+        }
+        2 => {
+            file.insert(at, *random.pick(b"0123456789,=\n\r -+"));
+            "byte added"
+        }
+        3 => {
+            file.remove(at);
+            "byte dropped"
+        }
+        4 => {
+            // The rest of the good file stays in memory behind the cut.
+            behind = file.split_off(at);
+            "cut"
+        }
+        5 => {
+            behind = file.split_off(file.len() - 1);
+            "last byte cut"
+        }
+        6..=10 => harm_lines(&mut file, random),
+        11..=15 => harm_number(&mut file, random),
+        16 => {
+            let with_return = |&byte: &u8| {
+                if byte == b'\n' {
+                    vec![b'\r', b'\n']
+                } else {
+                    vec![byte]
+                }
+            };
+            file = file.iter().flat_map(with_return).collect();
+            "carriage returns"
+        }
+        17 => {
+            let tails = ["\n", "0", "\0", "soft=1\n", "move=0,0,0,0\n"];
+            file.extend(random.pick(&tails).bytes());
+            "bytes behind the last line"
+        }
+        18 => {
+            // Just within, just beyond and well beyond the length.
+            let length = *random.pick(&[
+                MAX_PLAN_BYTES - 1,
+                MAX_PLAN_BYTES,
+                MAX_PLAN_BYTES + 1,
+                70_000,
+            ]);
+            let filler = if random.once_in(2) { file[at] } else { b'1' };
+            let more = length - file.len();
+            file.splice(at..at, std::iter::repeat_n(filler, more));
+            "stretched"
+        }
+        _ => {
+            let length = random.below(40);
+            file = (0..length)
+                .map(|_| *random.pick(b"tour=1\nmarks0,"))
+                .collect();
+            "noise"
+        }
+    };
+    (kind, file, behind)
+}
+
+fn harm_lines(file: &mut Vec<u8>, random: &mut Random) -> &'static str {
+    let mut lines: Vec<Vec<u8>> = file
+        .split_inclusive(|&byte| byte == b'\n')
+        .map(<[u8]>::to_vec)
+        .collect();
+    let (i, j) = (random.below(lines.len()), random.below(lines.len()));
+    let kind = match random.below(6) {
+        0 => {
+            lines.remove(i);
+            "line dropped"
+        }
+        1 => {
+            lines.insert(i, lines[i].clone());
+            "line doubled"
+        }
+        2 => {
+            lines.swap(i, j);
+            "lines swapped"
+        }
+        3 => {
+            lines.insert(i, b"\n".to_vec());
+            "empty line added"
+        }
+        4 => {
+            lines.truncate(i);
+            "lines cut"
+        }
+        _ => {
+            // Two faults, so that the earlier one must decide.
+            lines[i].insert(0, b' ');
+            lines[j].insert(0, b'x');
+            "two lines harmed"
+        }
+    };
+    *file = lines.concat();
+    kind
+}
+
+/// Puts another text in the place of one of the file's numbers.
+fn harm_number(file: &mut Vec<u8>, random: &mut Random) -> &'static str {
+    let digit = |i: usize| file[i].is_ascii_digit();
+    let starts: Vec<usize> = (1..file.len())
+        .filter(|&i| digit(i) && !digit(i - 1))
+        .collect();
+    let start = *random.pick(&starts);
+    let end = (start..file.len())
+        .find(|&i| !digit(i))
+        .unwrap_or(file.len());
+    let old: u64 = file[start..end]
+        .iter()
+        .fold(0, |n, &byte| n * 10 + (byte - b'0') as u64);
+    let (kind, new) = match random.below(9) {
+        0 => ("number one up", (old + 1).to_string()),
+        1 => ("number one down", old.saturating_sub(1).to_string()),
+        2 => {
+            // About the ends of the ranges and of the machine's words.
+            let ends: [u64; 22] = [
+                0, 1, 2, 7, 8, 9, 15, 16, 17, 63, 64, 65, 127, 128, 129, 255, 256, 1_024, 1_025,
+                65_536, 4_000_000, 4_000_001,
+            ];
+            ("number at an end", random.pick(&ends).to_string())
+        }
+        3 => {
+            let huge = [
+                "4294967296",
+                "4294967297",
+                "18446744073709551615",
+                "18446744073709551616",
+                "18446744073709551617",
+            ];
+            ("number huge", random.pick(&huge).to_string())
+        }
+        4 => {
+            let digits = random.between(20, 300);
+            (
+                "number very long",
+                (0..digits)
+                    .map(|i| if i == 0 { '1' } else { '0' })
+                    .collect(),
+            )
+        }
+        5 => ("leading zero", format!("0{old}")),
+        6 => ("number empty", String::new()),
+        7 => (
+            "number signed",
+            format!("{}{old}", random.pick(&['+', '-', ' '])),
+        ),
+        _ => ("one value more", format!("{old},{old}")),
+    };
+    file.splice(start..end, new.into_bytes());
+    kind
+}

@@ -1,0 +1,86 @@
+//! `plan_tour` on byte slices, as a C host calls it.
+
+use crate::plan::Plan;
+use crate::planner::{best_tour, Tour};
+use crate::reader::{read, Refusal};
+
+pub const BLOCK_BYTES: usize = 16;
+pub const BLOCK_TOO_SHORT: u32 = 7;
+
+/// The first 16 bytes of the answer block as numbers.
+#[derive(Clone, Copy, Debug, Default, PartialEq, Eq)]
+pub struct Block {
+    pub number: u8,
+    pub kept: u8,
+    pub count: u8,
+    pub line: u32,
+    pub cost: u32,
+    pub run_in: u16,
+    pub cycle: u16,
+}
+
+impl Block {
+    pub fn bytes(&self) -> [u8; BLOCK_BYTES] {
+        let mut bytes = [0; BLOCK_BYTES];
+        bytes[0] = self.number;
+        bytes[1] = self.kept;
+        bytes[2] = self.count;
+        bytes[4..8].copy_from_slice(&self.line.to_le_bytes());
+        bytes[8..12].copy_from_slice(&self.cost.to_le_bytes());
+        bytes[12..14].copy_from_slice(&self.run_in.to_le_bytes());
+        bytes[14..16].copy_from_slice(&self.cycle.to_le_bytes());
+        bytes
+    }
+}
+
+/// Plans the file. A refused call leaves run-in and loop as they were, and a
+/// block too short is left too.
+pub fn plan_tour(file: &[u8], answer: &mut [u8], run_in: &mut [u8], cycle: &mut [u8]) -> u32 {
+    if answer.len() < BLOCK_BYTES {
+        return BLOCK_TOO_SHORT;
+    }
+    let block = match plan_into(file, run_in, cycle) {
+        Ok(block) => block,
+        Err(refusal) => Block {
+            number: refusal.number() as u8,
+            line: refusal.line(),
+            ..Block::default()
+        },
+    };
+    answer[..BLOCK_BYTES].copy_from_slice(&block.bytes());
+    block.number as u32
+}
+
+fn plan_into(file: &[u8], run_in: &mut [u8], cycle: &mut [u8]) -> Result<Block, Refusal> {
+    let plan = read(file)?;
+    if (run_in.len() as u64) < plan.size() || (cycle.len() as u64) < plan.cycle_bound() {
+        return Err(Refusal::Buffer);
+    }
+    let (tour, kept) = best_tour(&plan).ok_or(Refusal::NoTour)?;
+    run_in[..tour.run_in.len()].copy_from_slice(&tour.run_in);
+    cycle[..tour.cycle.len()].copy_from_slice(&tour.cycle);
+    Ok(success(&plan, &tour, kept))
+}
+
+fn success(plan: &Plan, tour: &Tour, kept: u8) -> Block {
+    Block {
+        kept,
+        count: kept.count_ones() as u8,
+        cost: plan.cost(kept),
+        run_in: tour.run_in.len() as u16,
+        cycle: tour.cycle.len() as u16,
+        ..Block::default()
+    }
+}
+
+/// The upcoming places from step `t`: a part of one of the two slices.
+pub fn upcoming<'a>(run_in: &'a [u8], cycle: &'a [u8], t: u64) -> &'a [u8] {
+    let length = run_in.len() as u64;
+    if t < length {
+        &run_in[t as usize..]
+    } else if cycle.is_empty() {
+        cycle
+    } else {
+        &cycle[((t - length) % cycle.len() as u64) as usize..]
+    }
+}

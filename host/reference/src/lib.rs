@@ -1,0 +1,39 @@
+//! Paper 01 a second time, in plain Rust, to hold against the proved planner.
+//!
+//! | module | subject |
+//! |---|---|
+//! | `plan` | a plan as numbers, its text, N, cost and ties |
+//! | `reader` | from the file's bytes to a plan, or to its first fault |
+//! | `product` | the reachable part of the product graph, written out |
+//! | `components` | its strongly connected components |
+//! | `planner` | the best component, and a tour that keeps all it can |
+//! | `entry` | `plan_tour` on byte slices, with the answer block |
+//! | `tour` | any tour judged by the definitions, without the product |
+//! | `brute` | the best of all short tours, and of some chance ones |
+//! | `random` | a small source of chance with a fixed seed |
+//! | `rules`, `maps`, `shapes` | automata, roads and large plans to generate |
+//! | `damage` | faulty files, made from good ones |
+//! | `cases` | generated cases, each fixed by its number |
+//! | `figures` | the cases that 01 sets down with their answers |
+//! | `library` | the planner under comparison: an archive, or the stand-in |
+//! | `reply` | a call with guarded buffers, and what it leaves behind |
+//! | `harness` | one case put to both planners, the answers set side by side |
+
+pub mod brute;
+pub mod cases;
+pub mod components;
+pub mod damage;
+pub mod entry;
+pub mod figures;
+pub mod harness;
+pub mod library;
+pub mod maps;
+pub mod plan;
+pub mod planner;
+pub mod product;
+pub mod random;
+pub mod reader;
+pub mod reply;
+pub mod rules;
+pub mod shapes;
+pub mod tour;

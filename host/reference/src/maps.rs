@@ -1,0 +1,55 @@
+//! Places, labels and roads for generated plans.
+
+use crate::plan::{Automaton, Plan, Soft, MAX_PLACES, MAX_ROADS};
+use crate::random::Random;
+
+/// How many places keep N within `size` with these automata.
+pub fn places_within(size: u64, hard: &Automaton, soft: &[Soft]) -> usize {
+    let one = Plan {
+        marks: 0,
+        labels: vec![0],
+        start: 0,
+        roads: Vec::new(),
+        hard: hard.clone(),
+        soft: soft.to_vec(),
+    };
+    (size / one.size()).clamp(1, MAX_PLACES) as usize
+}
+
+pub fn labels(random: &mut Random, places: usize, marks: u8) -> Vec<u8> {
+    // Two chances at each bit, so that marks are rarer than not.
+    (0..places)
+        .map(|_| random.byte() & random.byte() & ((1u32 << marks) - 1) as u8)
+        .collect()
+}
+
+/// A road from each place to the next, from `first` to below `end`.
+pub fn row(first: usize, end: usize) -> Vec<(u8, u8)> {
+    (first + 1..end)
+        .map(|to| (to as u8 - 1, to as u8))
+        .collect()
+}
+
+pub fn all_roads(places: usize) -> Vec<(u8, u8)> {
+    let from_all = |from| (0..places as u8).map(move |to| (from, to));
+    (0..places as u8).flat_map(from_all).collect()
+}
+
+pub fn chance_roads(random: &mut Random, places: usize, count: usize) -> Vec<(u8, u8)> {
+    let mut road = || (random.below(places) as u8, random.below(places) as u8);
+    (0..count.min(MAX_ROADS as usize)).map(|_| road()).collect()
+}
+
+/// A row that closes on itself.
+pub fn ring(places: usize) -> Vec<(u8, u8)> {
+    [row(0, places), vec![(places as u8 - 1, 0)]].concat()
+}
+
+/// A ring through all places in some order, and roads by chance.
+pub fn round_and_more(random: &mut Random, places: usize, more: usize) -> Vec<(u8, u8)> {
+    let mut order: Vec<u8> = (0..places as u8).collect();
+    random.shuffle(&mut order);
+    let name = |(a, b): (u8, u8)| (order[a as usize], order[b as usize]);
+    let round = ring(places).into_iter().map(name).collect();
+    [round, chance_roads(random, places, more)].concat()
+}

@@ -1,0 +1,143 @@
+//! A plan as numbers: what a plan file says once it has been read.
+
+use std::fmt::Write;
+
+pub const MAX_PLAN_BYTES: usize = 60_000;
+pub const MAX_MARKS: u64 = 8;
+pub const MAX_PLACES: u64 = 128;
+pub const MAX_ROADS: u64 = 1_024;
+pub const MAX_HARD_STATES: u64 = 16;
+pub const MAX_SOFT_STATES: u64 = 8;
+pub const MAX_MOVES: u64 = 64;
+pub const MAX_RULES: u64 = 8;
+pub const MAX_WEIGHT: u64 = 4_000_000;
+pub const MAX_SIZE: u64 = 2_048;
+
+/// One line `move=q,need,bar,r`.
+#[derive(Clone, Copy, Debug, PartialEq, Eq)]
+pub struct Move {
+    pub from: u8,
+    pub need: u8,
+    pub bar: u8,
+    pub to: u8,
+}
+
+impl Move {
+    pub fn fits(&self, label: u8) -> bool {
+        label & self.need == self.need && label & self.bar == 0
+    }
+}
+
+/// An automaton as its block gives it, without a ditch.
+#[derive(Clone, Debug, PartialEq, Eq)]
+pub struct Automaton {
+    pub states: u8,
+    pub first: u8,
+    pub accept: u16,
+    pub moves: Vec<Move>,
+}
+
+impl Automaton {
+    pub fn accepts(&self, state: u8) -> bool {
+        self.accept >> state & 1 == 1
+    }
+}
+
+#[derive(Clone, Debug, PartialEq, Eq)]
+pub struct Soft {
+    pub weight: u32,
+    pub rule: Automaton,
+}
+
+#[derive(Clone, Debug, PartialEq, Eq)]
+pub struct Plan {
+    pub marks: u8,
+    /// One label for each place.
+    pub labels: Vec<u8>,
+    pub start: u8,
+    pub roads: Vec<(u8, u8)>,
+    pub hard: Automaton,
+    pub soft: Vec<Soft>,
+}
+
+impl Plan {
+    /// N: the places times the hard states times, for each soft rule, its
+    /// states and the ditch.
+    pub fn size(&self) -> u64 {
+        let ground = self.labels.len() as u64 * self.hard.states as u64;
+        self.soft
+            .iter()
+            .fold(ground, |n, soft| n * (soft.rule.states as u64 + 1))
+    }
+
+    /// How many places the planner's own loop may have.
+    pub fn cycle_bound(&self) -> u64 {
+        (self.soft.len() as u64 + 2) * self.size()
+    }
+
+    /// The weights of the soft rules that `kept` lacks.
+    pub fn cost(&self, kept: u8) -> u32 {
+        let lost = |&(i, _): &(usize, &Soft)| kept >> i & 1 == 0;
+        self.soft
+            .iter()
+            .enumerate()
+            .filter(lost)
+            .map(|(_, soft)| soft.weight)
+            .sum()
+    }
+
+    /// Whether a tour keeping `one` is better than a tour keeping `other`.
+    pub fn better(&self, one: u8, other: u8) -> bool {
+        let (cost, other_cost) = (self.cost(one), self.cost(other));
+        if cost != other_cost {
+            return cost < other_cost;
+        }
+        let differ = one ^ other;
+        let lowest = differ & differ.wrapping_neg();
+        one & lowest != 0
+    }
+
+    /// The plan file of this plan.
+    pub fn text(&self) -> String {
+        let mut text = String::new();
+        let line = &mut text;
+        put(line, "tour", &[1]);
+        put(line, "marks", &[self.marks as u32]);
+        put(line, "places", &[self.labels.len() as u32]);
+        for &label in &self.labels {
+            put(line, "label", &[label as u32]);
+        }
+        put(line, "start", &[self.start as u32]);
+        put(line, "roads", &[self.roads.len() as u32]);
+        for &(from, to) in &self.roads {
+            put(line, "road", &[from as u32, to as u32]);
+        }
+        put(line, "hard", &[self.hard.states as u32]);
+        put_body(line, &self.hard);
+        put(line, "rules", &[self.soft.len() as u32]);
+        for soft in &self.soft {
+            put(line, "soft", &[soft.rule.states as u32]);
+            put(line, "weight", &[soft.weight]);
+            put_body(line, &soft.rule);
+        }
+        text
+    }
+}
+
+fn put_body(text: &mut String, rule: &Automaton) {
+    put(text, "first", &[rule.first as u32]);
+    put(text, "accept", &[rule.accept as u32]);
+    put(text, "moves", &[rule.moves.len() as u32]);
+    for m in &rule.moves {
+        put(
+            text,
+            "move",
+            &[m.from as u32, m.need as u32, m.bar as u32, m.to as u32],
+        );
+    }
+}
+
+fn put(text: &mut String, key: &str, values: &[u32]) {
+    let values: Vec<String> = values.iter().map(u32::to_string).collect();
+    writeln!(text, "{key}={}", values.join(",")).expect("a string takes every line");
+}

@@ -1,0 +1,185 @@
+//! From the bytes of a plan file to a plan, or to its first fault.
+
+use crate::plan::*;
+use std::ops::RangeInclusive;
+
+/// Why a plan is turned away; a line is counted from 1.
+#[derive(Clone, Copy, Debug, PartialEq, Eq)]
+pub enum Refusal {
+    TooLong,
+    Form { line: u32 },
+    Range { line: u32 },
+    TooLarge,
+    Buffer,
+    NoTour,
+}
+
+impl Refusal {
+    pub fn number(self) -> u32 {
+        match self {
+            Refusal::TooLong => 1,
+            Refusal::Form { .. } => 2,
+            Refusal::Range { .. } => 3,
+            Refusal::TooLarge => 4,
+            Refusal::Buffer => 5,
+            Refusal::NoTour => 6,
+        }
+    }
+
+    pub fn line(self) -> u32 {
+        match self {
+            Refusal::Form { line } | Refusal::Range { line } => line,
+            _ => 0,
+        }
+    }
+}
+
+/// Reads a whole file: refusals 1, 2, 3 and 4, the first that holds.
+pub fn read(file: &[u8]) -> Result<Plan, Refusal> {
+    if file.len() > MAX_PLAN_BYTES {
+        return Err(Refusal::TooLong);
+    }
+    let mut lines = Lines {
+        rest: file,
+        done: 0,
+    };
+    let plan = read_plan(&mut lines)?;
+    lines.end()?;
+    if plan.size() > MAX_SIZE {
+        return Err(Refusal::TooLarge);
+    }
+    Ok(plan)
+}
+
+fn read_plan(lines: &mut Lines) -> Result<Plan, Refusal> {
+    lines.one("tour", 1..=1)?;
+    let marks = lines.one("marks", 0..=MAX_MARKS)?;
+    let last_label = (1 << marks) - 1;
+    let places = lines.one("places", 1..=MAX_PLACES)?;
+    let mut labels = Vec::new();
+    for _ in 0..places {
+        labels.push(lines.one("label", 0..=last_label)? as u8);
+    }
+    let start = lines.one("start", 0..=places - 1)?;
+    let count = lines.one("roads", 0..=MAX_ROADS)?;
+    let mut roads = Vec::new();
+    for _ in 0..count {
+        let [from, to] = lines.take("road", [0..=places - 1, 0..=places - 1])?;
+        roads.push((from as u8, to as u8));
+    }
+    let states = lines.one("hard", 1..=MAX_HARD_STATES)?;
+    let hard = read_body(lines, states, last_label)?;
+    let count = lines.one("rules", 0..=MAX_RULES)?;
+    let mut soft = Vec::new();
+    for _ in 0..count {
+        let states = lines.one("soft", 1..=MAX_SOFT_STATES)?;
+        let weight = lines.one("weight", 1..=MAX_WEIGHT)? as u32;
+        soft.push(Soft {
+            weight,
+            rule: read_body(lines, states, last_label)?,
+        });
+    }
+    Ok(Plan {
+        marks: marks as u8,
+        labels,
+        start: start as u8,
+        roads,
+        hard,
+        soft,
+    })
+}
+
+/// The lines that hard and soft blocks have in common.
+fn read_body(lines: &mut Lines, states: u64, last_label: u64) -> Result<Automaton, Refusal> {
+    let first = lines.one("first", 0..=states - 1)?;
+    let accept = lines.one("accept", 0..=(1 << states) - 1)?;
+    let count = lines.one("moves", 0..=MAX_MOVES)?;
+    let mut moves = Vec::new();
+    for _ in 0..count {
+        let ranges = [
+            0..=states - 1,
+            0..=last_label,
+            0..=last_label,
+            0..=states - 1,
+        ];
+        let [from, need, bar, to] = lines.take("move", ranges)?.map(|value| value as u8);
+        moves.push(Move {
+            from,
+            need,
+            bar,
+            to,
+        });
+    }
+    Ok(Automaton {
+        states: states as u8,
+        first: first as u8,
+        accept: accept as u16,
+        moves,
+    })
+}
+
+/// The bytes still to be read, after so many lines.
+struct Lines<'a> {
+    rest: &'a [u8],
+    done: u32,
+}
+
+impl Lines<'_> {
+    fn one(&mut self, key: &str, range: RangeInclusive<u64>) -> Result<u64, Refusal> {
+        self.take(key, [range]).map(|[value]| value)
+    }
+
+    /// Takes one line with this key and one value for each range. The form of
+    /// the whole line is judged before any range.
+    fn take<const COUNT: usize>(
+        &mut self,
+        key: &str,
+        ranges: [RangeInclusive<u64>; COUNT],
+    ) -> Result<[u64; COUNT], Refusal> {
+        self.done += 1;
+        let line = self.done;
+        let length = self.rest.iter().position(|&byte| byte == b'\n');
+        let length = length.ok_or(Refusal::Form { line })?;
+        let values = values(&self.rest[..length], key).ok_or(Refusal::Form { line })?;
+        if !values
+            .iter()
+            .zip(&ranges)
+            .all(|(value, range)| range.contains(value))
+        {
+            return Err(Refusal::Range { line });
+        }
+        self.rest = &self.rest[length + 1..];
+        Ok(values)
+    }
+
+    /// Nothing may follow the last line.
+    fn end(&self) -> Result<(), Refusal> {
+        if self.rest.is_empty() {
+            Ok(())
+        } else {
+            Err(Refusal::Form {
+                line: self.done + 1,
+            })
+        }
+    }
+}
+
+/// The values of a line of the form `key=value,value`, if it has that form
+/// and just so many values.
+fn values<const COUNT: usize>(line: &[u8], key: &str) -> Option<[u64; COUNT]> {
+    let text = line.strip_prefix(key.as_bytes())?.strip_prefix(b"=")?;
+    let values: Option<Vec<u64>> = text.split(|&byte| byte == b',').map(number).collect();
+    values?.try_into().ok()
+}
+
+/// A decimal number without a leading zero. One with more digits than fit
+/// becomes the largest there is, which is outside every range.
+fn number(text: &[u8]) -> Option<u64> {
+    if text.is_empty() || (text[0] == b'0' && text.len() > 1) {
+        return None;
+    }
+    text.iter().try_fold(0u64, |value, &byte| {
+        let digit = byte.is_ascii_digit().then(|| (byte - b'0') as u64)?;
+        Some(value.saturating_mul(10).saturating_add(digit))
+    })
+}

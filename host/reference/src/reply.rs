@@ -1,0 +1,216 @@
+//! A call with guarded buffers, and what must hold of all it leaves behind.
+
+use crate::cases::Case;
+use crate::entry::{Block, BLOCK_BYTES};
+use crate::library::Entry;
+use crate::plan::Plan;
+use crate::tour::judge;
+
+/// The lengths of the three lent buffers.
+#[derive(Clone, Copy, Debug)]
+pub struct Lengths {
+    pub answer: usize,
+    pub run_in: usize,
+    pub cycle: usize,
+}
+
+/// What a call answered: what it keeps and its number of places, if a tour.
+pub type Found = Option<(u8, usize)>;
+
+/// Calls a C entry on slices.
+pub fn call(
+    entry: Entry,
+    file: &[u8],
+    answer: &mut [u8],
+    run_in: &mut [u8],
+    cycle: &mut [u8],
+) -> u32 {
+    unsafe {
+        entry(
+            file.as_ptr(),
+            file.len(),
+            answer.as_mut_ptr(),
+            answer.len(),
+            run_in.as_mut_ptr(),
+            run_in.len(),
+            cycle.as_mut_ptr(),
+            cycle.len(),
+        )
+    }
+}
+
+/// A buffer between two margins, all filled with a pattern. No byte of the
+/// pattern is a place.
+struct Lent {
+    bytes: Vec<u8>,
+    filled: Vec<u8>,
+    from: usize,
+    length: usize,
+}
+
+const MARGIN: usize = 64;
+
+impl Lent {
+    fn new(salt: u8, length: usize) -> Lent {
+        let from = MARGIN + salt as usize % 8;
+        let pattern = |i: usize| (i as u8).wrapping_mul(37).wrapping_add(salt) | 0x80;
+        let filled: Vec<u8> = (0..from + length + MARGIN).map(pattern).collect();
+        Lent {
+            bytes: filled.clone(),
+            filled,
+            from,
+            length,
+        }
+    }
+
+    fn lend(&mut self) -> &mut [u8] {
+        &mut self.bytes[self.from..self.from + self.length]
+    }
+
+    fn content(&self) -> &[u8] {
+        &self.bytes[self.from..self.from + self.length]
+    }
+
+    /// Nothing was written but, perhaps, the first `written` bytes.
+    fn unchanged_beyond(&self, written: usize) -> bool {
+        let (start, end) = (self.from, self.from + written);
+        self.bytes[..start] == self.filled[..start] && self.bytes[end..] == self.filled[end..]
+    }
+}
+
+/// Everything a call leaves behind.
+pub struct Reply {
+    pub returned: u32,
+    file_changed: bool,
+    answer: Lent,
+    run_in: Lent,
+    cycle: Lent,
+}
+
+impl Reply {
+    pub fn of(
+        salt: u8,
+        case: &Case,
+        lengths: Lengths,
+        call: impl FnOnce(&[u8], &mut [u8], &mut [u8], &mut [u8]) -> u32,
+    ) -> Reply {
+        let memory = [&case.file[..], &case.behind].concat();
+        let mut answer = Lent::new(salt, lengths.answer);
+        let mut run_in = Lent::new(salt.wrapping_add(1), lengths.run_in);
+        let mut cycle = Lent::new(salt.wrapping_add(2), lengths.cycle);
+        let file = &memory[..case.file.len()];
+        let returned = call(file, answer.lend(), run_in.lend(), cycle.lend());
+        let file_changed = memory != [&case.file[..], &case.behind].concat();
+        Reply {
+            returned,
+            file_changed,
+            answer,
+            run_in,
+            cycle,
+        }
+    }
+
+    fn block(&self) -> Option<Block> {
+        let bytes = self.answer.content();
+        let word = |at: usize| u16::from_le_bytes([bytes[at], bytes[at + 1]]);
+        let long = |at: usize| word(at) as u32 | (word(at + 2) as u32) << 16;
+        (bytes.len() >= BLOCK_BYTES).then(|| Block {
+            number: bytes[0],
+            kept: bytes[1],
+            count: bytes[2],
+            line: long(4),
+            cost: long(8),
+            run_in: word(12),
+            cycle: word(14),
+        })
+    }
+
+    /// What must hold of a call by itself: bytes that stay as they were, and
+    /// a tour that is one, accepted, with just this cost and kept byte.
+    pub fn sound(&self, plan: Option<&Plan>) -> Result<Found, String> {
+        if self.file_changed {
+            return Err("plan bytes changed".into());
+        }
+        let Some(block) = self.block() else {
+            return match self.returned {
+                7 if [&self.answer, &self.run_in, &self.cycle]
+                    .iter()
+                    .all(|lent| lent.unchanged_beyond(0)) =>
+                {
+                    Ok(None)
+                }
+                7 => Err("bytes changed on refusal 7".into()),
+                other => Err(format!("short block, returned {other}")),
+            };
+        };
+        if self.answer.content()[..BLOCK_BYTES] != block.bytes() {
+            return Err("byte 3 of the block is not 0".into());
+        }
+        if !self.answer.unchanged_beyond(BLOCK_BYTES) {
+            return Err("bytes beyond the block changed".into());
+        }
+        if self.returned != block.number as u32 {
+            return Err(format!(
+                "returned {}, block has {}",
+                self.returned, block.number
+            ));
+        }
+        let (run_in, cycle) = (block.run_in as usize, block.cycle as usize);
+        if run_in > self.run_in.length || cycle > self.cycle.length {
+            return Err(format!("lengths {run_in}, {cycle} beyond the buffers"));
+        }
+        if !self.run_in.unchanged_beyond(run_in) || !self.cycle.unchanged_beyond(cycle) {
+            return Err("bytes beyond the tour changed".into());
+        }
+        if block.number != 0 {
+            let only = Block {
+                number: block.number,
+                line: block.line,
+                ..Block::default()
+            };
+            return if block == only {
+                Ok(None)
+            } else {
+                Err(format!("refusal with {block:?}"))
+            };
+        }
+        let plan = plan.ok_or("a tour for a file that is no plan")?;
+        if run_in as u64 > plan.size() || cycle as u64 > plan.cycle_bound() {
+            return Err(format!("tour longer than its bounds: {run_in}, {cycle}"));
+        }
+        let verdict = judge(
+            plan,
+            &self.run_in.content()[..run_in],
+            &self.cycle.content()[..cycle],
+        );
+        let told = (block.kept, block.count, block.cost, block.line);
+        if !verdict.is_tour
+            || !verdict.hard
+            || told != (verdict.kept, verdict.count, verdict.cost, 0)
+        {
+            return Err(format!("{block:?} but the tour is {verdict:?}"));
+        }
+        Ok(Some((block.kept, run_in + cycle)))
+    }
+
+    /// The block without the tour's lengths, which are free.
+    pub fn fixed(&self) -> Option<Block> {
+        self.block().map(|block| Block {
+            run_in: 0,
+            cycle: 0,
+            ..block
+        })
+    }
+
+    /// All but the tour's places and lengths is as the reference has it.
+    pub fn agrees(&self, reference: &Reply) -> Result<(), String> {
+        let (own, other) = (
+            (self.returned, self.fixed()),
+            (reference.returned, reference.fixed()),
+        );
+        if own != other {
+            return Err(format!("library {own:?}\nreference {other:?}"));
+        }
+        Ok(())
+    }
+}

@@ -1,0 +1,203 @@
+//! The comparison has teeth: planners with one fault each are found out within
+//! a few hundred cases, and the reference itself is not.
+
+use reference::cases::case;
+use reference::entry::{self, Block};
+use reference::harness::{check, Tally};
+use reference::library::{standin, Entry};
+use reference::plan::{Automaton, Plan};
+use reference::planner::best_tour;
+use reference::reader::read;
+use reference::tour::judge;
+use std::slice::{from_raw_parts, from_raw_parts_mut};
+
+/// The number of the first of 2,000 cases in which the harness objects.
+fn found_out(entry: Entry) -> Option<u64> {
+    let mut tally = Tally::default();
+    (0..2_000)
+        .filter(|number| number % 16 != 14)
+        .find(|&number| {
+            let (case, mut random) = case(number);
+            check(entry, &case, &mut random, &mut tally).is_err()
+        })
+}
+
+#[test]
+fn the_reference_is_not_found_out() {
+    assert_eq!(found_out(standin), None);
+}
+
+/// Makes an entry of a function on slices, and a test that it is found out.
+macro_rules! fault {
+    ($name:ident, $plan_tour:expr) => {
+        #[test]
+        fn $name() {
+            unsafe extern "C" fn entry(
+                plan: *const u8,
+                plan_len: usize,
+                answer: *mut u8,
+                answer_len: usize,
+                runin: *mut u8,
+                runin_len: usize,
+                cycle: *mut u8,
+                cycle_len: usize,
+            ) -> u32 {
+                let plan_tour: fn(&[u8], &mut [u8], &mut [u8], &mut [u8]) -> u32 = $plan_tour;
+                unsafe {
+                    plan_tour(
+                        from_raw_parts(plan, plan_len),
+                        from_raw_parts_mut(answer, answer_len),
+                        from_raw_parts_mut(runin, runin_len),
+                        from_raw_parts_mut(cycle, cycle_len),
+                    )
+                }
+            }
+            assert!(found_out(entry).is_some());
+        }
+    };
+}
+
+/// Plans another plan in the place of the one given, and answers with its
+/// tour and what that tour truly keeps, so that only demand 3 is broken.
+fn plan_instead(
+    file: &[u8],
+    answer: &mut [u8],
+    run_in: &mut [u8],
+    cycle: &mut [u8],
+    other: impl Fn(&Plan) -> Plan,
+) -> u32 {
+    let number = entry::plan_tour(file, answer, &mut run_in.to_vec(), &mut cycle.to_vec());
+    if number == 0 {
+        let plan = read(file).unwrap();
+        let (tour, _) = best_tour(&other(&plan))
+            .or_else(|| best_tour(&plan))
+            .unwrap();
+        let verdict = judge(&plan, &tour.run_in, &tour.cycle);
+        run_in[..tour.run_in.len()].copy_from_slice(&tour.run_in);
+        cycle[..tour.cycle.len()].copy_from_slice(&tour.cycle);
+        let block = Block {
+            kept: verdict.kept,
+            count: verdict.count,
+            cost: verdict.cost,
+            run_in: tour.run_in.len() as u16,
+            cycle: tour.cycle.len() as u16,
+            ..Block::default()
+        };
+        answer[..16].copy_from_slice(&block.bytes());
+    }
+    number
+}
+
+fault!(says_always_6, |_, answer, _, _| {
+    if answer.len() < 16 {
+        return 7;
+    }
+    answer[..16].fill(0);
+    answer[0] = 6;
+    6
+});
+
+fault!(writes_one_place_too_many, |file, answer, run_in, cycle| {
+    let number = entry::plan_tour(file, answer, run_in, cycle);
+    if number == 0 {
+        let length = u16::from_le_bytes([answer[14], answer[15]]) as usize;
+        if let Some(next) = cycle.get_mut(length) {
+            *next = 0;
+        }
+    }
+    number
+});
+
+fault!(writes_before_refusing_5, |file, answer, run_in, cycle| {
+    let number = entry::plan_tour(file, answer, run_in, cycle);
+    if number == 5 && !run_in.is_empty() {
+        run_in[0] = 0;
+    }
+    number
+});
+
+fault!(clears_the_whole_block, |file, answer, run_in, cycle| {
+    let number = entry::plan_tour(file, answer, run_in, cycle);
+    if number != 7 {
+        answer[16..].fill(0);
+    }
+    number
+});
+
+fault!(asks_for_one_byte_more, |file, answer, run_in, cycle| {
+    let less = run_in.len().saturating_sub(1);
+    entry::plan_tour(file, answer, &mut run_in[..less], cycle)
+});
+
+fault!(
+    reads_a_file_without_its_last_newline,
+    |file, answer, run_in, cycle| {
+        let mended = if file.ends_with(b"\n") {
+            file.to_vec()
+        } else {
+            [file, b"\n"].concat()
+        };
+        entry::plan_tour(&mended, answer, run_in, cycle)
+    }
+);
+
+fault!(drops_carriage_returns, |file, answer, run_in, cycle| {
+    let mended: Vec<u8> = file.iter().copied().filter(|&byte| byte != b'\r').collect();
+    entry::plan_tour(&mended, answer, run_in, cycle)
+});
+
+fault!(takes_the_first_move_only, |file, answer, run_in, cycle| {
+    plan_instead(file, answer, run_in, cycle, |plan| {
+        let first_only = |rule: &Automaton| {
+            let mut rule = rule.clone();
+            let all = rule.moves.clone();
+            let earlier = |i: usize| all[..i].iter().any(|m| m.from == all[i].from);
+            rule.moves = (0..all.len())
+                .filter(|&i| !earlier(i))
+                .map(|i| all[i])
+                .collect();
+            rule
+        };
+        let mut other = plan.clone();
+        for soft in &mut other.soft {
+            soft.rule = first_only(&soft.rule);
+        }
+        other
+    })
+});
+
+fault!(breaks_ties_the_other_way, |file, answer, run_in, cycle| {
+    plan_instead(file, answer, run_in, cycle, |plan| {
+        let mut other = plan.clone();
+        other.soft.reverse();
+        other
+    })
+});
+
+fault!(
+    counts_rules_and_not_weights,
+    |file, answer, run_in, cycle| {
+        plan_instead(file, answer, run_in, cycle, |plan| {
+            let mut other = plan.clone();
+            for soft in &mut other.soft {
+                soft.weight = 1;
+            }
+            other
+        })
+    }
+);
+
+fault!(overlooks_the_start_label, |file, answer, run_in, cycle| {
+    plan_instead(file, answer, run_in, cycle, |plan| {
+        let mut other = plan.clone();
+        other.labels[plan.start as usize] = 0;
+        other
+    })
+});
+
+fault!(forgets_the_soft_rules, |file, answer, run_in, cycle| {
+    plan_instead(file, answer, run_in, cycle, |plan| Plan {
+        soft: Vec::new(),
+        ..plan.clone()
+    })
+});
