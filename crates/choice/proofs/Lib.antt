@@ -1,4 +1,5 @@
 -- The laws of the crate, for its own proofs and for the crates above.
+pub mod Cursors
 pub mod Descents
 pub mod Components
 pub mod Judging

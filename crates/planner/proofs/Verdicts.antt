@@ -1,0 +1,103 @@
+-- The verdict as the code comes to it, and the promise from an answer that is told and written.
+--   zeros-blank, ones-mark     == fresh tables
+--   short-runin, short-loop    == a buffer is too short
+--   roomy-planned              == both have room: what planning comes to is what is told
+--   read-ok                    == a plan that was read is well formed and small
+--   refused-told, read-told    == a plan file that is turned away, and one that is read
+--   block-short, block-told    == the answer block is too short, or the answer stands in it
+use mathlib.Core.Path.{_≡_, refl, sym, ap, _∙_, subst}
+use mathlib.Core.Bool.{Bool, true, false, _&&_}
+use mathlib.Core.List.{List, _++_}
+use Prim.Native.Nat.{ℕ, zero, suc, _+_, _*_, _≤_, _<_}
+use native.Mathlib.Omega.{arith}
+use borrow.Author.Tests.{lt-leb, le-leb, lt-ltb, le-ltb}
+use lib.ListN.{length, getD, drop, replicate}
+use lib.Dec.{leb}
+use Rattle.plan.specs.Size.{size, loopRoom, roomy}
+use Rattle.plan.specs.Refusal.{number}
+use Rattle.plan.specs.declared.Plan.{Plan}
+use Rattle.plan.specs.declared.Refusal.{Refusal}
+use Rattle.plan.specs.declared.Refusal.the-variants as refusal
+use Rattle.reader.specs.Reading.{readPlan}
+use Rattle.reader.specs.declared.Outcome.{Outcome}
+use Rattle.reader.specs.declared.Reading.{Reading}
+use Rattle.reader.proofs.WellRead.{read-well, read-small}
+use Rattle.plan.specs.WellFormed.{WellFormed}
+use Rattle.reader.specs.declared.Outcome.the-variants as outcome
+use Rattle.answer.specs.Block.{blockOf}
+use Rattle.answer.specs.declared.Answer.{Answer}
+use Rattle.planner.specs.Promise.{verdict, refuse, go, choose, refusalAnswer, Planned, Refused, Told, Buffers, buffers, TooShort, Answered, Promise}
+use Rattle.planner.specs.Tables.{Small, Rooms, Marks}
+
+pub zeros-blank : (n u : ℕ) → _≡_ {A = ℕ} (getD (replicate n 0) u 0) 0
+zeros-blank zero u = refl
+zeros-blank (suc n) zero = refl
+zeros-blank (suc n) (suc u) = zeros-blank n u
+
+pub ones-mark : (n v : ℕ) → v < n → 0 < getD (replicate n 1) v 0
+ones-mark zero v h = absurd (omega arith)
+ones-mark (suc n) zero h = omega arith
+ones-mark (suc n) (suc v) h = ones-mark n v (omega arith)
+
+and-no : (b : Bool) → (b && false) ≡ false
+and-no true = refl
+and-no false = refl
+
+module _ (p : Plan) (n : ℕ) (count : n ≡ size p) (runin loop : List ℕ) (a : Answer) where
+  short : roomy p (length runin) (length loop) ≡ false → a ≡ refusalAnswer refusal.BufferTooShort
+      → Told (verdict outcome.Plan p (length runin) (length loop)) runin loop runin loop a
+  unfolding verdict Told
+  short e t = rw e (record { answer = t; same-runin = refl; same-loop = refl })
+
+  pub short-runin : length runin < n → a ≡ refusalAnswer refusal.BufferTooShort
+      → Told (verdict outcome.Plan p (length runin) (length loop)) runin loop runin loop a
+  short-runin h t = short (rw (lt-leb (size p) (length runin) (omega arith))) t
+
+  pub short-loop : length loop < (p .rules + 2) * n → a ≡ refusalAnswer refusal.BufferTooShort
+      → Told (verdict outcome.Plan p (length runin) (length loop)) runin loop runin loop a
+  short-loop h t =
+      let l : length loop < loopRoom p = subst (λ x. length loop < (p .rules + 2) * x) count h in
+      short (rw (lt-leb (loopRoom p) (length loop) l) (and-no (leb (size p) (length runin)))) t
+
+  module _ (runin′ loop′ : List ℕ) where
+    pub roomy-planned : n ≤ length runin → (p .rules + 2) * n ≤ length loop → Planned p runin loop runin′ loop′ a
+        → Told (verdict outcome.Plan p (length runin) (length loop)) runin loop runin′ loop′ a
+    unfolding verdict Told
+    roomy-planned h k P =
+        let l : loopRoom p ≤ length loop = subst (λ x. (p .rules + 2) * x ≤ length loop) count k in
+        let r : size p ≤ length runin = omega arith in
+        rw (le-leb (size p) (length runin) r, le-leb (loopRoom p) (length loop) l) P
+
+pub rooms : (p : Plan) (n r l : ℕ) → n ≤ r → (p .rules + 2) * n ≤ l → Rooms p n r l
+rooms p n r l h k = record { stem = h; cycle = let e : p .rules + 1 + 1 ≡ p .rules + 2 = omega arith in rw e k }
+
+-- what the reader answered is what the plan file reads as
+module _ (plan : List ℕ) (r : Reading) (same : r ≡ readPlan plan) where
+  pub read-ok : r .outcome ≡ outcome.Plan → WellFormed (r .plan) × (size (r .plan) ≤ 2048)
+  read-ok e =
+      let o : readPlan plan .outcome ≡ outcome.Plan = ap (λ x. x .outcome) (sym same) ∙ e in
+      subst (λ x. WellFormed (x .plan) × (size (x .plan) ≤ 2048)) (sym same) (read-well plan o, read-small plan o)
+
+  pub read-told : (runin loop runin′ loop′ : List ℕ) (a : Answer) → r .outcome ≡ outcome.Plan
+      → Told (verdict outcome.Plan (r .plan) (length runin) (length loop)) runin loop runin′ loop′ a
+      → Told (verdict (readPlan plan .outcome) (readPlan plan .plan) (length runin) (length loop)) runin loop runin′ loop′ a
+  read-told runin loop runin′ loop′ a e t =
+      subst (λ x. Told (verdict (x .outcome) (x .plan) (length runin) (length loop)) runin loop runin′ loop′ a) same
+      (subst (λ o. Told (verdict o (r .plan) (length runin) (length loop)) runin loop runin′ loop′ a) (sym e) t)
+
+  pub refused-told : (runin loop : List ℕ) (a : Answer) (x : Refusal) → r .outcome ≡ outcome.Refused x → a ≡ refusalAnswer x
+      → Told (verdict (readPlan plan .outcome) (readPlan plan .plan) (length runin) (length loop)) runin loop runin loop a
+  unfolding verdict Told
+  refused-told runin loop a x e t =
+      subst (λ y. Told (verdict (y .outcome) (y .plan) (length runin) (length loop)) runin loop runin loop a) same
+      (subst (λ o. Told (verdict o (r .plan) (length runin) (length loop)) runin loop runin loop a) (sym e) (record { answer = t; same-runin = refl; same-loop = refl }))
+
+pub block-short : (plan : List ℕ) (b : Buffers) → length (b .block) < 16 → Promise plan b b 7
+unfolding Promise number
+block-short plan b h = rw (lt-ltb (length (b .block)) 16 h) (record { answer = refl; untouched = refl })
+
+pub block-told : (plan block runin loop block′ runin′ loop′ : List ℕ) (a : Answer) → 16 ≤ length block
+    → Told (verdict (readPlan plan .outcome) (readPlan plan .plan) (length runin) (length loop)) runin loop runin′ loop′ a
+    → block′ ≡ blockOf a ++ drop 16 block → Promise plan (buffers block runin loop) (buffers block′ runin′ loop′) (a .number)
+unfolding Promise
+block-told plan block runin loop block′ runin′ loop′ a h t w = rw (le-ltb (length block) 16 h) (record { answer = a; told = t; block = w; returned = refl })
