@@ -4,6 +4,7 @@
 --   roomy-planned              == both have room: what planning comes to is what is told
 --   read-ok                    == a plan that was read is well formed and small
 --   refused-told, read-told    == a plan file that is turned away, and one that is read
+--   told-fits                  == the lengths that are told lie within the buffers
 --   block-short, block-told    == the answer block is too short, or the answer stands in it
 use mathlib.Core.Path.{_≡_, refl, sym, ap, _∙_, subst}
 use mathlib.Core.Bool.{Bool, true, false, _&&_}
@@ -11,7 +12,7 @@ use mathlib.Core.List.{List, _++_}
 use Prim.Native.Nat.{ℕ, zero, suc, _+_, _*_, _≤_, _<_}
 use native.Mathlib.Omega.{arith}
 use borrow.Author.Tests.{lt-leb, le-leb, lt-ltb, le-ltb}
-use lib.ListN.{length, getD, drop, replicate}
+use lib.ListN.{length, getD, drop, replicate, length-append}
 use lib.Dec.{leb}
 use Rattle.plan.specs.Size.{size, loopRoom, roomy}
 use Rattle.plan.specs.Refusal.{number}
@@ -26,7 +27,7 @@ use Rattle.plan.specs.WellFormed.{WellFormed}
 use Rattle.reader.specs.declared.Outcome.the-variants as outcome
 use Rattle.answer.specs.Block.{blockOf}
 use Rattle.answer.specs.declared.Answer.{Answer}
-use Rattle.planner.specs.Promise.{verdict, refuse, go, choose, refusalAnswer, Planned, Refused, Told, Buffers, buffers, TooShort, Answered, Promise}
+use Rattle.planner.specs.Promise.{Verdict, verdict, refuse, go, choose, refusalAnswer, Planned, none, tour, Refused, Told, Buffers, buffers, TooShort, Answered, Promise}
 use Rattle.planner.specs.Tables.{Small, Rooms, Marks}
 
 pub zeros-blank : (n u : ℕ) → _≡_ {A = ℕ} (getD (replicate n 0) u 0) 0
@@ -101,3 +102,14 @@ pub block-told : (plan block runin loop block′ runin′ loop′ : List ℕ) (a
     → block′ ≡ blockOf a ++ drop 16 block → Promise plan (buffers block runin loop) (buffers block′ runin′ loop′) (a .number)
 unfolding Promise
 block-told plan block runin loop block′ runin′ loop′ a h t w = rw (le-ltb (length block) 16 h) (record { answer = a; told = t; block = w; returned = refl })
+
+-- the lengths of an answer lie within the buffers
+pub told-fits : (v : Verdict) (runin loop runin′ loop′ : List ℕ) (a : Answer) → Told v runin loop runin′ loop′ a
+    → (a .stem ≤ length runin′) × (a .cycle ≤ length loop′)
+unfolding Told
+told-fits (refuse x) runin loop runin′ loop′ a t = (rw (t .answer) (omega arith), rw (t .answer) (omega arith))
+told-fits (go p) runin loop runin′ loop′ a (none n e r l) = (rw e (omega arith), rw e (omega arith))
+told-fits (go p) runin loop runin′ loop′ a (tour t) = (rw (t .answer) (within (t .stem) runin runin′ (t .stem-text)), rw (t .answer) (within (t .cycle) loop loop′ (t .cycle-text)))
+  where
+    within : (xs before after : List ℕ) → after ≡ xs ++ drop (length xs) before → length xs ≤ length after
+    within xs before after e = omega (arith, ap length e ∙ length-append xs (drop (length xs) before))

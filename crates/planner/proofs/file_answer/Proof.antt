@@ -1,3 +1,4 @@
+-- `file_answer` meets its contract: a plan that was read is well formed and small, and a refusal is told as it is.
 use Rattle.planner.proofs.Verdicts.{read-ok}
 use mathlib.Core.Path.{ap, sym, _∙_}
 use Rattle.planner.proofs.Verdicts.{read-told, refused-told}

@@ -1,3 +1,4 @@
+-- `plan_answer` meets its contract: its three returns are a run-in that is too short, a loop that is, and both long enough.
 use Prim.Native.Nat.{_+_, _≤_}
 use native.Mathlib.Omega.{arith}
 use native.Mathlib.Nat.{mul-le-mul-right}

@@ -1,3 +1,4 @@
+-- `plan_in_arrays` meets its contract: an array has its length.
 use native.Mathlib.Omega.{arith}
 use borrow.Author.Needs.{needs}
 use Rattle.planner.proofs.plan_in_arrays.Statement.{statement}

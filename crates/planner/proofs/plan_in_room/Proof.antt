@@ -1,3 +1,4 @@
+-- `plan_in_room` meets its contract: fresh tables are blank, and one of ones marks every node.
 use Rattle.planner.proofs.Verdicts.{zeros-blank, ones-mark}
 use borrow.Author.Needs.{needs}
 use Rattle.planner.proofs.plan_in_room.Statement.{statement}

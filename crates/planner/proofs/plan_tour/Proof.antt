@@ -1,3 +1,4 @@
+-- `plan_tour` keeps its promise: a block that is too short is left alone, and else the answer stands in it.
 use Rattle.planner.proofs.Verdicts.{block-short, block-told}
 use borrow.Author.Needs.{needs}
 use Rattle.planner.proofs.plan_tour.Statement.{statement}
