@@ -1,0 +1,2 @@
+-- What the looks at a graph need.
+pub mod Surveys
