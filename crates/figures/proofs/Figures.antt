@@ -21,6 +21,8 @@ use Rattle.compile.specs.Product.{radices, tuple, nodeOf, startNode, placeOf, h
 use Rattle.product.specs.Net.{allBelow}
 use Rattle.product.specs.Radix.{stride, encode}
 use Rattle.serve.specs.Upcoming.{upcomingPlaces}
+use Rattle.plan.specs.declared.Refusal.the-variants as refusal
+use Rattle.planner.specs.Promise.{verdict, refuse, go, choose}
 use Rattle.graph.specs.Paths.{Walk}
 use Rattle.optimality.specs.Offer.{Edge, Choice}
 use Rattle.optimality.proofs.Arcs.{all-elim}
@@ -109,11 +111,11 @@ none-holds p n by h = record { nodes = eqb-true (size p) n (test 1); none = tour
     test = all-nth (noneTests p n by) h
 
 pub passes-holds : (f : Figure) → passes f ≡ true → Holds f
-unfolding passes Holds
+unfolding passes Holds verdict
 passes-holds (best p n c k count by r) h = best-holds p n c k count by r h
 passes-holds (refused p n by) h = none-holds p n by h
 passes-holds (served stem cycle t part) h = same-sound (upcomingPlaces stem cycle t) part h
-passes-holds (room p runin loop ok) h = alike-sound (roomy p runin loop) ok h
+passes-holds (room p runin loop ok) h = ap (λ b. choose b (go p) (refuse refusal.BufferTooShort)) (alike-sound (roomy p runin loop) ok h)
 
 -- ---- the list
 

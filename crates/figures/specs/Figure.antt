@@ -4,7 +4,7 @@
 --     best p n cost kept count == the best tour of p, whose N is n, has this cost, kept byte and count
 --     refused p n              == no tour of p is accepted by the hard rule
 --     served stem cycle t part == the upcoming places at step t
---     room p runin loop ok     == whether buffers of these lengths are long enough for p
+--     room p runin loop ok     == with buffers of these lengths p is planned, or it is refused with 5
 --   Holds f                   == the claim
 --   passes f                  == the test
 use mathlib.Core.Path.{_≡_}
@@ -23,6 +23,9 @@ use Rattle.plan.specs.declared.Plan.{Plan}
 use Rattle.product.specs.Net.{allBelow}
 use Rattle.compile.specs.Product.{startNode, hardOf, softOf}
 use Rattle.serve.specs.Upcoming.{upcomingPlaces}
+use Rattle.plan.specs.declared.Refusal.the-variants as refusal
+use Rattle.reader.specs.declared.Outcome.the-variants as outcome
+use Rattle.planner.specs.Promise.{Verdict, verdict, refuse, go, choose}
 use Rattle.figures.specs.Certificate.{Certificate, implies, bestBy, noneBy, walksBy, allOf, wellFormed}
 
 pub record Route : Type 0 where
@@ -55,7 +58,7 @@ unfoldable pub Holds : Figure → Type 0
 Holds (best p n c k count by route) = BestIs p n c k count
 Holds (refused p n by) = NoneIs p n
 Holds (served stem cycle t part) = upcomingPlaces stem cycle t ≡ part
-Holds (room p runin loop ok) = roomy p runin loop ≡ ok
+Holds (room p runin loop ok) = verdict outcome.Plan p runin loop ≡ choose ok (go p) (refuse refusal.BufferTooShort)
 
 -- some node of a route's cycle passes a test
 abbrev pub meets : Route → (ℕ → Bool) → Bool

@@ -3,3 +3,4 @@ pub mod Bridge
 pub mod Made
 pub mod Steps
 pub mod Verdicts
+pub mod Unique
