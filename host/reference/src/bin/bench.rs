@@ -5,10 +5,13 @@
 //! For each shape, COUNT plans (9) with N near 2,048 or the number given: the
 //! median and the worst time of a plan, in microseconds, and how often the
 //! reference's time the library's is. Then how the median grows with N, and
-//! the power of N by which it does so from the third size to the last.
+//! the power of N by which it does so from the third size to the last; last, the
+//! size of a product of each shape.
 
+use reference::components::components;
 use reference::entry;
 use reference::library::{ENTRY, NAME};
+use reference::product::Product;
 use reference::random::Random;
 use reference::reader::read;
 use reference::reply::call;
@@ -74,6 +77,26 @@ fn main() {
             (last / before).log2() / (last_n / n).log2()
         );
     }
+
+    println!("\nof each shape the product with the most arcs, as far as it is reached");
+    println!("{:8} {:>6} {:>9} {:>11}", "shape", "nodes", "arcs", "components");
+    for shape in SHAPES {
+        let (arcs, product) = (0..plans)
+            .map(|seed| Product::of(&large(shape, size, &mut Random::new(seed))))
+            .map(|product| (arcs(&product), product))
+            .max_by_key(|(arcs, _)| *arcs)
+            .expect("at least one plan");
+        let mut parts = components(&product);
+        parts.sort_unstable();
+        parts.dedup();
+        println!("{:8} {:>6} {:>9} {:>11}", shape.name(), product.len(), arcs, parts.len());
+    }
+}
+
+fn arcs(product: &Product) -> usize {
+    (0..product.len())
+        .map(|node| product.next(node as u16).len())
+        .sum()
 }
 
 /// The times of each plan of one shape, and the median N.
