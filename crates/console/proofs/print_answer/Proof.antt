@@ -1,11 +1,11 @@
 -- `print_answer` is safe: what was written is a prefix of the buffer.
 use Rattle.answer.specs.Text.{textOf}
-use Rattle.plantour.proofs.Prefixes.{written-le, prefix-long}
+use Rattle.console.proofs.Prefixes.{written-le, prefix-long}
 use borrow.Author.Needs.{needs}
-use Rattle.plantour.proofs.print_answer.Statement.{statement}
-use Rattle.plantour.proofs.print_answer.Tie as tie
-use Rattle.plantour.proofs.print_answer.Reads as reads
-use Rattle.plantour.proofs.print_answer.Lts as lts
+use Rattle.console.proofs.print_answer.Statement.{statement}
+use Rattle.console.proofs.print_answer.Tie as tie
+use Rattle.console.proofs.print_answer.Reads as reads
+use Rattle.console.proofs.print_answer.Lts as lts
 use Rattle.answer.proofs.write_text.Reads as write-text-reads
 use Rattle.io.proofs.write_all.Reads as write-all-reads
 

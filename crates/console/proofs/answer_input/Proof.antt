@@ -2,15 +2,15 @@
 use lib.ListN.{length-take}
 use native.Mathlib.Omega.{arith}
 use Rattle.planner.proofs.Verdicts.{told-fits}
-use Rattle.plantour.proofs.Prefixes.{prefix-long}
+use Rattle.console.proofs.Prefixes.{prefix-long}
 use borrow.Author.Needs.{needs}
-use Rattle.plantour.proofs.answer_input.Statement.{statement}
-use Rattle.plantour.proofs.answer_input.Tie as tie
-use Rattle.plantour.proofs.answer_input.Reads as reads
-use Rattle.plantour.proofs.answer_input.Lts as lts
+use Rattle.console.proofs.answer_input.Statement.{statement}
+use Rattle.console.proofs.answer_input.Tie as tie
+use Rattle.console.proofs.answer_input.Reads as reads
+use Rattle.console.proofs.answer_input.Lts as lts
 use Rattle.io.proofs.read_full.Reads as read-full-reads
 use Rattle.planner.proofs.file_answer.Reads as file-answer-reads
-use Rattle.plantour.proofs.print_answer.Reads as print-answer-reads
+use Rattle.console.proofs.print_answer.Reads as print-answer-reads
 
 -- src/main.rt:20:9
 read-full-requires : tie.Need-read-full-requires
