@@ -41,28 +41,42 @@ pub const ENTRY: Entry = standin;
 #[cfg(not(archive))]
 pub const NAME: &str = "stand-in";
 
-/// The reference under C's signature.
+/// A function on slices under C's signature, as `NAME, FUNCTION`.
 ///
-/// # Safety
-/// Each pointer is to so many bytes as the length behind it says, and no two
-/// of the four stretches overlap.
-pub unsafe extern "C" fn standin(
-    plan: *const u8,
-    plan_len: usize,
-    answer: *mut u8,
-    answer_len: usize,
-    runin: *mut u8,
-    runin_len: usize,
-    cycle: *mut u8,
-    cycle_len: usize,
-) -> u32 {
-    use std::slice::{from_raw_parts, from_raw_parts_mut};
-    unsafe {
-        crate::entry::plan_tour(
-            from_raw_parts(plan, plan_len),
-            from_raw_parts_mut(answer, answer_len),
-            from_raw_parts_mut(runin, runin_len),
-            from_raw_parts_mut(cycle, cycle_len),
-        )
-    }
+/// The function made is safe to call if each pointer is to so many bytes as
+/// the length behind it says, and no two of the four stretches overlap.
+#[macro_export]
+macro_rules! entry {
+    ($(#[$attribute:meta])* $name:ident, $plan_tour:expr) => {
+        $(#[$attribute])*
+        pub unsafe extern "C" fn $name(
+            plan: *const u8,
+            plan_len: usize,
+            answer: *mut u8,
+            answer_len: usize,
+            runin: *mut u8,
+            runin_len: usize,
+            cycle: *mut u8,
+            cycle_len: usize,
+        ) -> u32 {
+            use std::slice::{from_raw_parts, from_raw_parts_mut};
+            let plan_tour: fn(&[u8], &mut [u8], &mut [u8], &mut [u8]) -> u32 = $plan_tour;
+            unsafe {
+                plan_tour(
+                    from_raw_parts(plan, plan_len),
+                    from_raw_parts_mut(answer, answer_len),
+                    from_raw_parts_mut(runin, runin_len),
+                    from_raw_parts_mut(cycle, cycle_len),
+                )
+            }
+        }
+    };
+}
+
+entry! {
+    /// The reference under C's signature.
+    ///
+    /// # Safety
+    /// As for every `entry!`.
+    standin, crate::entry::plan_tour
 }

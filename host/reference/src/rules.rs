@@ -3,7 +3,8 @@
 use crate::plan::{Automaton, Move, Soft};
 use crate::random::Random;
 
-fn go(from: u8, need: u8, bar: u8, to: u8) -> Move {
+/// A move: its ends, the marks it needs and those it bars.
+pub fn go(from: u8, need: u8, bar: u8, to: u8) -> Move {
     Move {
         from,
         need,

@@ -9,7 +9,6 @@ use reference::plan::{Automaton, Plan};
 use reference::planner::best_tour;
 use reference::reader::read;
 use reference::tour::judge;
-use std::slice::{from_raw_parts, from_raw_parts_mut};
 
 /// The number of the first of 2,000 cases in which the harness objects.
 fn found_out(entry: Entry) -> Option<u64> {
@@ -32,26 +31,7 @@ macro_rules! fault {
     ($name:ident, $plan_tour:expr) => {
         #[test]
         fn $name() {
-            unsafe extern "C" fn entry(
-                plan: *const u8,
-                plan_len: usize,
-                answer: *mut u8,
-                answer_len: usize,
-                runin: *mut u8,
-                runin_len: usize,
-                cycle: *mut u8,
-                cycle_len: usize,
-            ) -> u32 {
-                let plan_tour: fn(&[u8], &mut [u8], &mut [u8], &mut [u8]) -> u32 = $plan_tour;
-                unsafe {
-                    plan_tour(
-                        from_raw_parts(plan, plan_len),
-                        from_raw_parts_mut(answer, answer_len),
-                        from_raw_parts_mut(runin, runin_len),
-                        from_raw_parts_mut(cycle, cycle_len),
-                    )
-                }
-            }
+            reference::entry!(entry, $plan_tour);
             assert!(found_out(entry).is_some());
         }
     };

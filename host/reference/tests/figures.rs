@@ -5,9 +5,9 @@ use reference::entry::{plan_tour, upcoming};
 use reference::figures::{at_the_bound, figures, soft, start_marked, x};
 use reference::harness::check_figure;
 use reference::library::standin;
-use reference::plan::{Automaton, Move, Plan};
+use reference::plan::{Automaton, Plan};
 use reference::reader::{read, Refusal};
-use reference::rules::{again, always, once};
+use reference::rules::{again, always, go, once};
 use reference::tour::judge;
 
 /// What the reference says of a file: number, line, cost, kept, count.
@@ -155,15 +155,6 @@ fn order_of_4_5_6_and_7() {
     assert_eq!(call(&large, 16, 0), 4);
     assert_eq!(call(&large, 15, 0), 7);
     assert_eq!(call("", 0, 0), 7);
-}
-
-fn go(from: u8, need: u8, bar: u8, to: u8) -> Move {
-    Move {
-        from,
-        need,
-        bar,
-        to,
-    }
 }
 
 /// Two places without marks, a road from the first to the second and from
