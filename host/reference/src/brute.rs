@@ -5,23 +5,22 @@ use crate::random::Random;
 use crate::tour::judge;
 
 /// The best of all tours up to some number of places.
+#[derive(Default)]
 pub struct Search {
     /// Every tour with at most so many places, run-in and loop together, was
     /// judged.
     pub places: usize,
     /// What the best one keeps, if the hard rule accepts any.
     pub kept: Option<u8>,
+    /// Another of the same cost keeps other rules.
+    pub tied: bool,
     pub judged: usize,
 }
 
 /// Judges all tours of one place, of two, and so on, while the walks of one
 /// length are at most `walks` in number.
 pub fn all_short_tours(plan: &Plan, walks: usize, most_places: usize) -> Search {
-    let mut search = Search {
-        places: 0,
-        kept: None,
-        judged: 0,
-    };
+    let mut search = Search::default();
     let mut front = vec![vec![plan.start]];
     while !front.is_empty() && front.len() <= walks && search.places < most_places {
         for walk in &front {
@@ -47,11 +46,7 @@ fn longer(plan: &Plan, walk: &[u8]) -> Vec<Vec<u8>> {
 
 /// Judges tours made of chance walks from the start, closed where they can be.
 pub fn chance_tours(plan: &Plan, random: &mut Random, walks: usize, most_places: usize) -> Search {
-    let mut search = Search {
-        places: 0,
-        kept: None,
-        judged: 0,
-    };
+    let mut search = Search::default();
     let mut ways = vec![Vec::new(); plan.labels.len()];
     for &(from, to) in &plan.roads {
         ways[from as usize].push(to);
@@ -85,7 +80,16 @@ impl Search {
             return;
         }
         self.judged += 1;
-        if verdict.hard && self.kept.is_none_or(|held| plan.better(verdict.kept, held)) {
+        if !verdict.hard {
+            return;
+        }
+        let better = self.kept.is_none_or(|held| plan.better(verdict.kept, held));
+        match self.kept {
+            Some(held) if plan.cost(held) == verdict.cost => self.tied |= held != verdict.kept,
+            _ if better => self.tied = false,
+            _ => {}
+        }
+        if better {
             self.kept = Some(verdict.kept);
         }
     }

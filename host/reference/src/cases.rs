@@ -1,31 +1,83 @@
-//! Generated plans and files. A case is fixed by its number alone.
+//! Plans and files to try: some fixed ones, and generated ones, each of which
+//! is fixed by its number alone.
 
-use crate::damage::damage;
-use crate::maps::{chance_roads, labels, places_within};
-use crate::plan::{Plan, MAX_PLACES, MAX_SIZE};
+use crate::damage::{damage, every_damage, Harmed};
+use crate::figures::{figures, x};
+use crate::maps::{all_roads, chance_roads, labels, places_within};
+use crate::plan::{Plan, Soft, MAX_PLACES, MAX_PLAN_BYTES, MAX_SIZE};
 use crate::random::Random;
-use crate::rules::{always, any, soft_rules};
+use crate::rules::{again, always, any, never, once, soft_rules};
 use crate::shapes::{large, Shape, SHAPES};
 
-/// A file to plan, and bytes that lie behind it in memory but are not part of
-/// it.
+/// A file to plan, bytes that lie behind it in memory but are not part of it,
+/// and how many bytes lie on either side of each buffer at least.
 pub struct Case {
     pub kind: String,
     pub file: Vec<u8>,
     pub behind: Vec<u8>,
+    pub margin: usize,
+}
+
+impl Case {
+    pub fn new(kind: &str, file: Vec<u8>) -> Case {
+        Case {
+            kind: kind.into(),
+            file,
+            behind: b"0123,456\nrules=0\n".to_vec(),
+            margin: 64,
+        }
+    }
+
+    /// With nothing behind the file and about the buffers, so that a checker
+    /// of memory sees every byte touched there.
+    pub fn bare(self) -> Case {
+        Case {
+            behind: Vec::new(),
+            margin: 0,
+            ..self
+        }
+    }
+}
+
+/// Files for buffers of every length about the limits: the figures of 01, one
+/// that is too long, and the largest plans without and with eight soft rules.
+pub fn limit_cases() -> Vec<Case> {
+    let of_01 = figures().into_iter();
+    let mut cases: Vec<Case> = of_01
+        .map(|figure| Case::new(&format!("figure {}", figure.name), figure.file))
+        .collect();
+    cases.push(Case::new("too long", vec![b'1'; MAX_PLAN_BYTES + 1]));
+    for shape in [Shape::Wide, Shape::Rules] {
+        cases.push(intact(
+            shape.name(),
+            large(shape, MAX_SIZE, &mut Random::new(1)),
+        ));
+    }
+    cases
+}
+
+/// Plan X after each harm of some kinds.
+pub fn harmed_cases() -> Vec<Case> {
+    let all = every_damage(x().text().as_bytes()).into_iter();
+    all.map(harmed).collect()
 }
 
 /// The case with this number, and the source of the further chances in it.
 pub fn case(number: u64) -> (Case, Random) {
     let mut random = Random::new(number.wrapping_mul(0x5851_f42d_4c95_7f2d).wrapping_add(1));
     let case = match number % 16 {
-        0..=5 => intact("tiny", tiny(&mut random)),
+        0..=4 => intact("tiny", tiny(&mut random)),
+        5 => intact("tied", tied(&mut random)),
         6..=8 => intact("small", small(&mut random)),
         9..=13 => damaged(&mut random),
         14 => {
-            let shape = SHAPES[(number / 16) as usize % SHAPES.len()];
-            let less = random.between(64, MAX_SIZE as usize) as u64;
-            let size = if random.once_in(2) { MAX_SIZE } else { less };
+            // All shapes in turn, once as large as can be, once smaller.
+            let turn = (number / 16) as usize;
+            let shape = SHAPES[turn % SHAPES.len()];
+            let size = match turn / SHAPES.len() % 2 {
+                0 => MAX_SIZE,
+                _ => random.between(64, MAX_SIZE as usize) as u64,
+            };
             intact(shape.name(), large(shape, size, &mut random))
         }
         _ => intact("oversized", oversized(&mut random)),
@@ -34,10 +86,13 @@ pub fn case(number: u64) -> (Case, Random) {
 }
 
 fn intact(kind: &str, plan: Plan) -> Case {
+    Case::new(kind, plan.text().into_bytes())
+}
+
+fn harmed((kind, file, behind): Harmed) -> Case {
     Case {
-        kind: kind.into(),
-        file: plan.text().into_bytes(),
-        behind: b"0123,456\nrules=0\n".to_vec(),
+        behind,
+        ..Case::new(&format!("damaged, {kind}"), file)
     }
 }
 
@@ -47,12 +102,7 @@ fn damaged(random: &mut Random) -> Case {
     } else {
         small(random)
     };
-    let (kind, file, behind) = damage(plan.text().as_bytes(), random);
-    Case {
-        kind: format!("damaged, {kind}"),
-        file,
-        behind,
-    }
+    harmed(damage(plan.text().as_bytes(), random))
 }
 
 /// A plan small enough to try all its short tours.
@@ -87,6 +137,43 @@ pub fn tiny(random: &mut Random) -> Plan {
         roads,
         hard,
         soft,
+    }
+}
+
+/// A tiny plan whose soft rules exclude each other at equal weight, or one
+/// excludes two that weigh as much together.
+pub fn tied(random: &mut Random) -> Plan {
+    let mark = random.below(2) as u8;
+    // The start lacks the mark, or `never` were lost at once.
+    let start = random.below(3) as u8;
+    let mut labels: Vec<u8> = (0..3).map(|_| random.below(4) as u8).collect();
+    labels[start as usize] &= !(1 << mark);
+    let mut roads = all_roads(3);
+    random.shuffle(&mut roads);
+    roads.truncate(random.between(4, 9));
+    let unit = random.between(1, 2_000_000) as u32;
+    let mut rules = match random.below(3) {
+        0 => vec![(1, never(mark)), (1, once(mark))],
+        1 => vec![(1, never(mark)), (1, again(mark)), (1, once(1 - mark))],
+        _ => vec![(2, never(mark)), (1, once(mark)), (1, again(mark))],
+    };
+    random.shuffle(&mut rules);
+    let soft = |(units, rule)| Soft {
+        weight: units * unit,
+        rule,
+    };
+    let hard = if random.once_in(2) {
+        always()
+    } else {
+        any(random, 2, 2)
+    };
+    Plan {
+        marks: 2,
+        labels,
+        start,
+        roads,
+        hard,
+        soft: rules.into_iter().map(soft).collect(),
     }
 }
 

@@ -3,11 +3,59 @@
 
 use crate::plan::MAX_PLAN_BYTES;
 use crate::random::Random;
+use std::ops::Range;
 
 /// A harm's name, the harmed file, and the bytes to lie behind it in memory.
-pub fn damage(text: &[u8], random: &mut Random) -> (&'static str, Vec<u8>, Vec<u8>) {
+pub type Harmed = (&'static str, Vec<u8>, Vec<u8>);
+
+const BEHIND: &[u8] = b"0,0\nmove=0,0,0,0\n";
+
+/// All that one harm of some kinds makes of the file: a cut at each byte, each
+/// bit flipped, each line dropped, each doubled, each two swapped, and each
+/// number raised by what a machine word loses, or very long.
+pub fn every_damage(text: &[u8]) -> Vec<Harmed> {
+    let mut all = Vec::new();
+    for at in 0..text.len() {
+        all.push(("cut", text[..at].to_vec(), text[at..].to_vec()));
+    }
+    let mut add = |kind, file| all.push((kind, file, BEHIND.to_vec()));
+    for at in 0..text.len() {
+        for bit in 0..8 {
+            let mut file = text.to_vec();
+            file[at] ^= 1 << bit;
+            add("bit flipped", file);
+        }
+    }
+    let whole = lines(text);
+    for i in 0..whole.len() {
+        let without = [&whole[..i], &whole[i + 1..]].concat();
+        add("line dropped", without.concat());
+        let twice = [&whole[..=i], &whole[i..]].concat();
+        add("line doubled", twice.concat());
+        for j in 0..i {
+            let mut lines = whole.clone();
+            lines.swap(i, j);
+            add("lines swapped", lines.concat());
+        }
+    }
+    for number in numbers(text) {
+        let with = |new: String| {
+            let (before, after) = (&text[..number.start], &text[number.end..]);
+            [before, new.as_bytes(), after].concat()
+        };
+        for bits in [8, 16, 32, 64] {
+            let raised = value(&text[number.clone()]) as u128 + (1 << bits);
+            add("number raised", with(raised.to_string()));
+        }
+        add("number very long", with("9".repeat(300)));
+    }
+    all
+}
+
+/// One harm by chance.
+pub fn damage(text: &[u8], random: &mut Random) -> Harmed {
     let mut file = text.to_vec();
-    let mut behind = b"0,0\nmove=0,0,0,0\n".to_vec();
+    let mut behind = BEHIND.to_vec();
     let at = random.below(file.len());
     let kind = match random.below(20) {
         0 => {
@@ -77,11 +125,30 @@ pub fn damage(text: &[u8], random: &mut Random) -> (&'static str, Vec<u8>, Vec<u
     (kind, file, behind)
 }
 
-fn harm_lines(file: &mut Vec<u8>, random: &mut Random) -> &'static str {
-    let mut lines: Vec<Vec<u8>> = file
-        .split_inclusive(|&byte| byte == b'\n')
+fn lines(text: &[u8]) -> Vec<Vec<u8>> {
+    text.split_inclusive(|&byte| byte == b'\n')
         .map(<[u8]>::to_vec)
-        .collect();
+        .collect()
+}
+
+/// Where the file's numbers stand.
+fn numbers(text: &[u8]) -> Vec<Range<usize>> {
+    let digit = |&i: &usize| text[i].is_ascii_digit();
+    let starts = (1..text.len()).filter(|i| digit(i) && !digit(&(i - 1)));
+    let end = |start| (start..text.len()).find(|i| !digit(i));
+    starts
+        .map(|start| start..end(start).unwrap_or(text.len()))
+        .collect()
+}
+
+fn value(number: &[u8]) -> u64 {
+    number
+        .iter()
+        .fold(0, |n, &byte| n * 10 + (byte - b'0') as u64)
+}
+
+fn harm_lines(file: &mut Vec<u8>, random: &mut Random) -> &'static str {
+    let mut lines = lines(file);
     let (i, j) = (random.below(lines.len()), random.below(lines.len()));
     let kind = match random.below(6) {
         0 => {
@@ -117,17 +184,8 @@ fn harm_lines(file: &mut Vec<u8>, random: &mut Random) -> &'static str {
 
 /// Puts another text in the place of one of the file's numbers.
 fn harm_number(file: &mut Vec<u8>, random: &mut Random) -> &'static str {
-    let digit = |i: usize| file[i].is_ascii_digit();
-    let starts: Vec<usize> = (1..file.len())
-        .filter(|&i| digit(i) && !digit(i - 1))
-        .collect();
-    let start = *random.pick(&starts);
-    let end = (start..file.len())
-        .find(|&i| !digit(i))
-        .unwrap_or(file.len());
-    let old: u64 = file[start..end]
-        .iter()
-        .fold(0, |n, &byte| n * 10 + (byte - b'0') as u64);
+    let place = random.pick(&numbers(file)).clone();
+    let old = value(&file[place.clone()]);
     let (kind, new) = match random.below(9) {
         0 => ("number one up", (old + 1).to_string()),
         1 => ("number one down", old.saturating_sub(1).to_string()),
@@ -166,6 +224,6 @@ fn harm_number(file: &mut Vec<u8>, random: &mut Random) -> &'static str {
         ),
         _ => ("one value more", format!("{old},{old}")),
     };
-    file.splice(start..end, new.into_bytes());
+    file.splice(place, new.into_bytes());
     kind
 }

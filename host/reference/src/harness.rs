@@ -10,19 +10,10 @@ use crate::plan::Plan;
 use crate::random::Random;
 use crate::reader::read;
 use crate::reply::{call, Found, Lengths, Reply};
+use crate::tally::Tally;
 
-/// How often each thing was done.
-#[derive(Default)]
-pub struct Tally {
-    pub calls: usize,
-    /// Calls by the number returned.
-    pub numbers: [usize; 8],
-    /// Plans all of whose short tours were tried, and those among them whose
-    /// best tour was short enough to be met.
-    pub tried: usize,
-    pub settled: usize,
-    pub tours_judged: usize,
-}
+/// A plan with a larger N is planned less often.
+const MUCH: u64 = 300;
 
 /// Puts the case to the library with several buffers. The error says what
 /// differed.
@@ -33,24 +24,60 @@ pub fn check(
     tally: &mut Tally,
 ) -> Result<(), String> {
     let plan = read(&case.file).ok();
-    let further = if plan.as_ref().is_some_and(|plan| plan.size() > 300) {
-        1
-    } else {
-        3
-    };
-    for round in 0..=further {
-        let lengths = if round == 0 {
-            exact(plan.as_ref())
-        } else {
-            chance_lengths(plan.as_ref(), random)
-        };
-        let kept = one_call(entry, case, plan.as_ref(), lengths, random, tally)
-            .map_err(|what| format!("{what}\nbuffers: {lengths:?}"))?;
-        if let (0, Some(plan)) = (round, &plan) {
-            no_better_tour(plan, kept, random, tally)?;
-        }
+    let plan = plan.as_ref();
+    if let Some(plan) = plan {
+        tally.plan(&case.kind, plan);
     }
-    Ok(())
+    let further = if much(plan) { 1 } else { 3 };
+    tally.case(|tally| {
+        let salt = random.byte();
+        let found = one_call(entry, case, plan, exact(plan), salt, tally)?;
+        if let Some(plan) = plan {
+            no_better_tour(plan, found, random, tally)?;
+        }
+        for _ in 0..further {
+            let lengths = chance_lengths(plan, random);
+            one_call(entry, case, plan, lengths, random.byte(), tally)?;
+        }
+        Ok(())
+    })
+}
+
+/// Puts the case to the library once, with buffers as long as asked for.
+pub fn check_once(entry: Entry, case: &Case, tally: &mut Tally) -> Result<(), String> {
+    let plan = read(&case.file).ok();
+    let lengths = exact(plan.as_ref());
+    tally
+        .case(|tally| one_call(entry, case, plan.as_ref(), lengths, 0, tally))
+        .map(|_| ())
+}
+
+/// Puts the case to the library with every two buffers about the limits, and
+/// with every answer block of up to 40 bytes.
+pub fn check_limits(entry: Entry, case: &Case, tally: &mut Tally) -> Result<(), String> {
+    let plan = read(&case.file).ok();
+    let plan = plan.as_ref();
+    let limits = exact(plan);
+    let about = |limit: usize| [0, limit - 1, limit, limit + 1];
+    let pairs = about(limits.run_in).into_iter().flat_map(|run_in| {
+        about(limits.cycle).map(|cycle| Lengths {
+            run_in,
+            cycle,
+            ..limits
+        })
+    });
+    let blocks = if much(plan) { 14..=17 } else { 0..=40 };
+    let blocks = blocks.map(|answer| Lengths { answer, ..limits });
+    tally.case(|tally| {
+        for (salt, lengths) in pairs.chain(blocks).enumerate() {
+            one_call(entry, case, plan, lengths, salt as u8, tally)?;
+        }
+        Ok(())
+    })
+}
+
+fn much(plan: Option<&Plan>) -> bool {
+    plan.is_some_and(|plan| plan.size() > MUCH)
 }
 
 fn one_call(
@@ -58,35 +85,30 @@ fn one_call(
     case: &Case,
     plan: Option<&Plan>,
     lengths: Lengths,
-    random: &mut Random,
+    salt: u8,
     tally: &mut Tally,
 ) -> Result<Found, String> {
-    let salt = random.byte();
     let library = Reply::of(salt, case, lengths, |file, answer, run_in, cycle| {
         call(entry, file, answer, run_in, cycle)
     });
     let reference = Reply::of(salt, case, lengths, entry::plan_tour);
-    tally.calls += 1;
-    tally.numbers[reference.returned as usize] += 1;
+    tally.calls[reference.returned as usize] += 1;
 
+    let with_lengths = |what: String| format!("{what}\nbuffers: {lengths:?}");
     reference
         .sound(plan)
-        .map_err(|what| format!("reference: {what}"))?;
+        .map_err(|what| with_lengths(format!("reference: {what}")))?;
     let found = library
         .sound(plan)
-        .map_err(|what| format!("library: {what}"))?;
-    library.agrees(&reference)?;
+        .map_err(|what| with_lengths(format!("library: {what}")))?;
+    library.agrees(&reference).map_err(with_lengths)?;
     Ok(found)
 }
 
 /// Puts one of 01's cases to the library and looks for the answer that 01
 /// gives, whatever the reference says.
 pub fn check_figure(entry: Entry, figure: &Figure) -> Result<(), String> {
-    let case = Case {
-        kind: figure.name.into(),
-        file: figure.file.clone(),
-        behind: Vec::new(),
-    };
+    let case = Case::new(figure.name, figure.file.clone());
     let lengths = Lengths {
         answer: BLOCK_BYTES,
         run_in: figure.buffers.0,
@@ -165,10 +187,11 @@ fn no_better_tour(
             some.kept
         ));
     }
-    if plan.labels.len() <= 3 && plan.size() <= 300 {
+    if plan.labels.len() <= 3 && !much(Some(plan)) {
         let all = all_short_tours(plan, 250, 9);
         tally.tours_judged += all.judged;
         tally.tried += 1;
+        tally.tied += all.tied as usize;
         if beaten_by(&all) {
             return Err(format!(
                 "a short tour keeps {:?}, the answer {found:?}",

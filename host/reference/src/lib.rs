@@ -13,11 +13,12 @@
 //! | `random` | a small source of chance with a fixed seed |
 //! | `rules`, `maps`, `shapes` | automata, roads and large plans to generate |
 //! | `damage` | faulty files, made from good ones |
-//! | `cases` | generated cases, each fixed by its number |
+//! | `cases` | files to plan: fixed ones, and generated ones by their number |
 //! | `figures` | the cases that 01 sets down with their answers |
 //! | `library` | the planner under comparison: an archive, or the stand-in |
 //! | `reply` | a call with guarded buffers, and what it leaves behind |
 //! | `harness` | one case put to both planners, the answers set side by side |
+//! | `tally` | what a comparison has met, and what it should have met |
 
 pub mod brute;
 pub mod cases;
@@ -36,4 +37,5 @@ pub mod reader;
 pub mod reply;
 pub mod rules;
 pub mod shapes;
+pub mod tally;
 pub mod tour;

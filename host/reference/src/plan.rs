@@ -41,6 +41,14 @@ impl Automaton {
     pub fn accepts(&self, state: u8) -> bool {
         self.accept >> state & 1 == 1
     }
+
+    /// Whether some state has moves to two states under one label.
+    pub fn chooses(&self) -> bool {
+        let both = |a: &Move, b: &Move| (a.need | b.need) & (a.bar | b.bar) == 0;
+        let differ = |a: &Move, b: &Move| a.from == b.from && a.to != b.to;
+        let moves = || self.moves.iter();
+        moves().any(|a| moves().any(|b| differ(a, b) && both(a, b)))
+    }
 }
 
 #[derive(Clone, Debug, PartialEq, Eq)]

@@ -39,8 +39,8 @@ pub fn call(
     }
 }
 
-/// A buffer between two margins, all filled with a pattern. No byte of the
-/// pattern is a place.
+/// A buffer between two margins, perhaps of no bytes, all filled with a
+/// pattern. No byte of the pattern is a place.
 struct Lent {
     bytes: Vec<u8>,
     filled: Vec<u8>,
@@ -48,13 +48,15 @@ struct Lent {
     length: usize,
 }
 
-const MARGIN: usize = 64;
-
 impl Lent {
-    fn new(salt: u8, length: usize) -> Lent {
-        let from = MARGIN + salt as usize % 8;
+    fn new(salt: u8, length: usize, margin: usize) -> Lent {
+        let from = if margin == 0 {
+            0
+        } else {
+            margin + salt as usize % 8
+        };
         let pattern = |i: usize| (i as u8).wrapping_mul(37).wrapping_add(salt) | 0x80;
-        let filled: Vec<u8> = (0..from + length + MARGIN).map(pattern).collect();
+        let filled: Vec<u8> = (0..from + length + margin).map(pattern).collect();
         Lent {
             bytes: filled.clone(),
             filled,
@@ -95,9 +97,10 @@ impl Reply {
         call: impl FnOnce(&[u8], &mut [u8], &mut [u8], &mut [u8]) -> u32,
     ) -> Reply {
         let memory = [&case.file[..], &case.behind].concat();
-        let mut answer = Lent::new(salt, lengths.answer);
-        let mut run_in = Lent::new(salt.wrapping_add(1), lengths.run_in);
-        let mut cycle = Lent::new(salt.wrapping_add(2), lengths.cycle);
+        let lent = |more, length| Lent::new(salt.wrapping_add(more), length, case.margin);
+        let mut answer = lent(0, lengths.answer);
+        let mut run_in = lent(1, lengths.run_in);
+        let mut cycle = lent(2, lengths.cycle);
         let file = &memory[..case.file.len()];
         let returned = call(file, answer.lend(), run_in.lend(), cycle.lend());
         let file_changed = memory != [&case.file[..], &case.behind].concat();

@@ -3,11 +3,12 @@
 
 use reference::cases::case;
 use reference::entry::{self, Block};
-use reference::harness::{check, Tally};
+use reference::harness::check;
 use reference::library::{standin, Entry};
 use reference::plan::{Automaton, Plan};
 use reference::planner::best_tour;
 use reference::reader::read;
+use reference::tally::Tally;
 use reference::tour::judge;
 
 /// The number of the first of 2,000 cases in which the harness objects.
@@ -110,6 +111,16 @@ fault!(asks_for_one_byte_more, |file, answer, run_in, cycle| {
 });
 
 fault!(
+    takes_a_loop_one_byte_short,
+    |file, answer, run_in, cycle| {
+        let mut longer = [&cycle[..], &[0]].concat();
+        let number = entry::plan_tour(file, answer, run_in, &mut longer);
+        cycle.copy_from_slice(&longer[..cycle.len()]);
+        number
+    }
+);
+
+fault!(
     reads_a_file_without_its_last_newline,
     |file, answer, run_in, cycle| {
         let mended = if file.ends_with(b"\n") {
@@ -125,6 +136,21 @@ fault!(drops_carriage_returns, |file, answer, run_in, cycle| {
     let mended: Vec<u8> = file.iter().copied().filter(|&byte| byte != b'\r').collect();
     entry::plan_tour(&mended, answer, run_in, cycle)
 });
+
+fault!(
+    loses_numbers_above_32_bits,
+    |file, answer, run_in, cycle| {
+        let mut mended = Vec::new();
+        for part in file.chunk_by(|a, b| a.is_ascii_digit() == b.is_ascii_digit()) {
+            let digits = std::str::from_utf8(part).ok();
+            match digits.and_then(|digits| digits.parse::<u64>().ok()) {
+                Some(value) if part[0] != b'0' => mended.extend((value as u32).to_string().bytes()),
+                _ => mended.extend(part),
+            }
+        }
+        entry::plan_tour(&mended, answer, run_in, cycle)
+    }
+);
 
 fault!(takes_the_first_move_only, |file, answer, run_in, cycle| {
     plan_instead(file, answer, run_in, cycle, |plan| {

@@ -1,12 +1,16 @@
 //! Times the library beside the reference, in one process, on large plans.
 //!
 //!     bench [--plans COUNT] [--size N]
+//!     bench --write SHAPE SEED FILE
 //!
 //! For each shape, COUNT plans (9) with N near 2,048 or the number given: the
 //! median and the worst time of a plan, in microseconds, and how often the
 //! reference's time the library's is. Then how the median grows with N, and
 //! the power of N by which it does so from the third size to the last; last, the
 //! size of a product of each shape.
+//!
+//! With --write no time is taken: the file becomes the plan number SEED of that
+//! shape, with N near 2,048.
 
 use reference::components::components;
 use reference::entry;
@@ -24,6 +28,11 @@ const REPEATS: usize = 3;
 fn main() {
     let (mut plans, mut size) = (9, 2_048);
     let arguments: Vec<String> = std::env::args().skip(1).collect();
+    if let [write, shape, seed, file] = &arguments[..] {
+        if write == "--write" {
+            return write_plan(shape, seed, file);
+        }
+    }
     for pair in arguments.chunks(2) {
         match (
             pair[0].as_str(),
@@ -31,10 +40,7 @@ fn main() {
         ) {
             ("--plans", Some(value)) if value > 0 => plans = value,
             ("--size", Some(value)) if (64..=2_048).contains(&value) => size = value,
-            _ => {
-                eprintln!("usage: bench [--plans COUNT] [--size N], N from 64 to 2048");
-                std::process::exit(2);
-            }
+            _ => usage(),
         }
     }
 
@@ -79,7 +85,10 @@ fn main() {
     }
 
     println!("\nof each shape the product with the most arcs, as far as it is reached");
-    println!("{:8} {:>6} {:>9} {:>11}", "shape", "nodes", "arcs", "components");
+    println!(
+        "{:8} {:>6} {:>9} {:>11}",
+        "shape", "nodes", "arcs", "components"
+    );
     for shape in SHAPES {
         let (arcs, product) = (0..plans)
             .map(|seed| Product::of(&large(shape, size, &mut Random::new(seed))))
@@ -89,7 +98,31 @@ fn main() {
         let mut parts = components(&product);
         parts.sort_unstable();
         parts.dedup();
-        println!("{:8} {:>6} {:>9} {:>11}", shape.name(), product.len(), arcs, parts.len());
+        println!(
+            "{:8} {:>6} {:>9} {:>11}",
+            shape.name(),
+            product.len(),
+            arcs,
+            parts.len()
+        );
+    }
+}
+
+fn usage() -> ! {
+    eprintln!("usage: bench [--plans COUNT] [--size N], N from 64 to 2048");
+    eprintln!("       bench --write SHAPE SEED FILE");
+    std::process::exit(2)
+}
+
+fn write_plan(shape: &str, seed: &str, file: &str) {
+    let shape = SHAPES.into_iter().find(|known| known.name() == shape);
+    let (Some(shape), Ok(seed)) = (shape, seed.parse()) else {
+        usage()
+    };
+    let plan = large(shape, 2_048, &mut Random::new(seed));
+    if let Err(what) = std::fs::write(file, plan.text()) {
+        eprintln!("bench: {file}: {what}");
+        std::process::exit(1);
     }
 }
 

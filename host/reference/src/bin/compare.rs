@@ -1,38 +1,50 @@
-//! Holds the library against the reference on generated cases.
+//! Holds the library against the reference on fixed and generated cases.
 //!
-//!     compare [--seconds S] [--first CASE] [--cases COUNT] [--trace]
+//!     compare [--seconds S] [--first CASE] [--cases COUNT] [--bare] [--trace]
 //!
-//! The figures of 01 come first, then cases in the order of their numbers,
-//! from CASE (0 if not given) on, until S seconds (20) have passed or COUNT
-//! cases are done. A case is the same on every run. With --trace each case's
-//! number is told before its first call. The first difference is printed with
-//! its case and its plan, and the program ends with 1; without one it ends
-//! with 0 after a line that sums up.
+//! First come the figures of 01, files with buffers of every length about the
+//! limits, and one plan harmed in every way of some kinds; then cases in the
+//! order of their numbers, from CASE (0 if not given) on, until S seconds (20)
+//! have passed or COUNT cases are done. A case is the same on every run. With
+//! --bare nothing lies about the plan and the buffers: a checker of memory then
+//! sees each step beyond them. With --trace each case is told before its first
+//! call. The first difference is printed with its case and its plan, and the
+//! program ends with 1; without one it ends with 0 after a tally. A run of 20
+//! seconds and more, not bounded by COUNT, also ends with 1 if something that
+//! it should have met is missing in the tally.
 
-use reference::cases::case;
+use reference::cases::{case, harmed_cases, limit_cases, Case};
 use reference::figures::figures;
-use reference::harness::{check, check_figure, Tally};
+use reference::harness::{check, check_figure, check_limits, check_once};
 use reference::library::{ENTRY, NAME};
+use reference::tally::Tally;
 use std::process::exit;
-use std::sync::atomic::{AtomicU64, Ordering};
+use std::sync::Mutex;
 use std::time::{Duration, Instant};
 
 struct Options {
     seconds: u64,
     first: u64,
     cases: u64,
+    bare: bool,
     trace: bool,
 }
 
+const USAGE: &str =
+    "usage: compare [--seconds S] [--first CASE] [--cases COUNT] [--bare] [--trace]";
+
+/// From so many seconds on a run should meet everything.
+const FULL: u64 = 20;
+
 /// The case at work, for the watch.
-static AT_WORK: AtomicU64 = AtomicU64::new(0);
+static AT_WORK: Mutex<String> = Mutex::new(String::new());
 
 /// A case that takes longer than this is taken for one without end.
-const PATIENCE: Duration = Duration::from_secs(60);
+const PATIENCE: Duration = Duration::from_secs(120);
 
 fn main() {
     let options = options().unwrap_or_else(|what| {
-        eprintln!("compare: {what}\nusage: compare [--seconds S] [--first CASE] [--cases COUNT] [--trace]");
+        eprintln!("compare: {what}\n{USAGE}");
         exit(2)
     });
     std::thread::spawn(watch);
@@ -40,57 +52,76 @@ fn main() {
     let begin = Instant::now();
 
     for figure in figures() {
-        if let Err(what) = check_figure(ENTRY, &figure) {
-            differs(
-                &format!("figure {} of 01", figure.name),
-                &what,
-                &figure.file,
-            );
-        }
+        let name = format!("figure {} of 01", figure.name);
+        options.put(&name, &figure.file, || check_figure(ENTRY, &figure));
+    }
+    for case in limit_cases() {
+        let (name, case) = (format!("limits of {}", case.kind), options.lay(case));
+        options.put(&name, &case.file, || check_limits(ENTRY, &case, &mut tally));
+    }
+    for case in harmed_cases() {
+        let (name, case) = (format!("plan X, {}", case.kind), options.lay(case));
+        options.put(&name, &case.file, || check_once(ENTRY, &case, &mut tally));
     }
     let end = options.first.saturating_add(options.cases);
     let mut number = options.first;
     while number < end && begin.elapsed() < Duration::from_secs(options.seconds) {
-        AT_WORK.store(number, Ordering::Relaxed);
         let (case, mut random) = case(number);
-        if options.trace {
-            eprintln!("case {number}, {}", case.kind);
-        }
-        if let Err(what) = check(ENTRY, &case, &mut random, &mut tally) {
-            differs(&format!("case {number}, {}", case.kind), &what, &case.file);
-        }
+        let (name, case) = (format!("case {number}, {}", case.kind), options.lay(case));
+        options.put(&name, &case.file, || {
+            check(ENTRY, &case, &mut random, &mut tally)
+        });
         number += 1;
     }
+
+    println!("compare: {NAME}\n{tally}");
+    let lacks = tally.lacks();
+    if options.cases == u64::MAX && options.seconds >= FULL && !lacks.is_empty() {
+        println!("compare: never met: {}", lacks.join(", "));
+        exit(1);
+    }
     println!(
-        "compare: {NAME}: no difference; cases {} to {}, {} calls, numbers 0..7 {:?}, \
-         {} tours judged, short tours of {} plans tried, {} settled; {} s",
+        "compare: no difference; {} generated cases from {}, {} s",
+        number - options.first,
         options.first,
-        number.saturating_sub(1),
-        tally.calls,
-        tally.numbers,
-        tally.tours_judged,
-        tally.tried,
-        tally.settled,
-        begin.elapsed().as_secs(),
+        begin.elapsed().as_secs()
     );
 }
 
-fn differs(place: &str, what: &str, file: &[u8]) -> ! {
-    println!("compare: {NAME}: difference at {place}\n{what}");
-    let text = file.escape_ascii().to_string().replace("\\n", "\n");
-    println!("plan, {} bytes:\n{text}", file.len());
-    exit(1)
+impl Options {
+    fn lay(&self, case: Case) -> Case {
+        if self.bare {
+            case.bare()
+        } else {
+            case
+        }
+    }
+
+    /// Ends the program at a difference.
+    fn put(&self, name: &str, file: &[u8], check: impl FnOnce() -> Result<(), String>) {
+        *AT_WORK.lock().unwrap() = name.into();
+        if self.trace {
+            eprintln!("{name}");
+        }
+        if let Err(what) = check() {
+            println!("compare: {NAME}: difference at {name}\n{what}");
+            let text = file.escape_ascii().to_string().replace("\\n", "\n");
+            println!("plan, {} bytes:\n{text}", file.len());
+            exit(1)
+        }
+    }
 }
 
 /// Ends the program if one case stays at work.
 fn watch() {
-    let mut seen = AT_WORK.load(Ordering::Relaxed);
+    let at_work = || AT_WORK.lock().unwrap().clone();
+    let mut seen = at_work();
     loop {
         std::thread::sleep(PATIENCE);
-        let now = AT_WORK.load(Ordering::Relaxed);
+        let now = at_work();
         if now == seen {
             println!(
-                "compare: {NAME}: no end to case {now} within {} s",
+                "compare: {NAME}: no end to {now} within {} s",
                 PATIENCE.as_secs()
             );
             exit(1);
@@ -101,9 +132,10 @@ fn watch() {
 
 fn options() -> Result<Options, String> {
     let mut options = Options {
-        seconds: 20,
+        seconds: FULL,
         first: 0,
         cases: u64::MAX,
+        bare: false,
         trace: false,
     };
     let mut arguments = std::env::args().skip(1);
@@ -116,6 +148,7 @@ fn options() -> Result<Options, String> {
             "--seconds" => options.seconds = value()?,
             "--first" => options.first = value()?,
             "--cases" => options.cases = value()?,
+            "--bare" => options.bare = true,
             "--trace" => options.trace = true,
             _ => return Err(format!("{name} is unknown")),
         }

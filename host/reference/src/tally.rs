@@ -1,0 +1,98 @@
+//! What a comparison has met, and what it should have met.
+
+use crate::plan::Plan;
+use crate::shapes::SHAPES;
+use std::collections::BTreeMap;
+use std::fmt;
+
+/// From this N on a plan is near the bound.
+pub const NEAR: u64 = 1_536;
+
+/// How often each thing was done.
+#[derive(Default)]
+pub struct Tally {
+    /// Calls by the number returned, and cases with such a call.
+    pub calls: [usize; 8],
+    pub cases: [usize; 8],
+    /// Plans with a rule that may choose between moves.
+    pub choices: usize,
+    /// Plans near the bound, by their kind.
+    pub near: BTreeMap<String, usize>,
+    pub tours_judged: usize,
+    /// Plans all of whose short tours were tried; those among them whose best
+    /// tour was short enough to be met; those whose best tours, equal in cost,
+    /// keep different rules.
+    pub tried: usize,
+    pub settled: usize,
+    pub tied: usize,
+}
+
+impl Tally {
+    /// Counts the calls of one case.
+    pub fn case<T>(&mut self, calls: impl FnOnce(&mut Tally) -> T) -> T {
+        let before = self.calls;
+        let result = calls(self);
+        for (number, before) in before.into_iter().enumerate() {
+            if self.calls[number] > before {
+                self.cases[number] += 1;
+            }
+        }
+        result
+    }
+
+    pub fn plan(&mut self, kind: &str, plan: &Plan) {
+        let rules = plan.soft.iter().map(|soft| &soft.rule);
+        if rules.chain([&plan.hard]).any(|rule| rule.chooses()) {
+            self.choices += 1;
+        }
+        if plan.size() >= NEAR {
+            *self.near.entry(kind.into()).or_default() += 1;
+        }
+    }
+
+    /// What a run of some length should have met and has not.
+    pub fn lacks(&self) -> Vec<String> {
+        let numbers = (0..8).map(|number| (format!("the number {number}"), self.calls[number]));
+        let shapes = SHAPES.iter().map(|shape| {
+            let count = self.near.get(shape.name()).copied().unwrap_or(0);
+            (format!("shape {} near the bound", shape.name()), count)
+        });
+        let others = [
+            ("a rule with a choice".into(), self.choices),
+            ("a tie".into(), self.tied),
+            ("a plan settled by its short tours".into(), self.settled),
+        ];
+        let all = numbers.chain(shapes).chain(others);
+        all.filter(|(_, count)| *count == 0)
+            .map(|(what, _)| what)
+            .collect()
+    }
+}
+
+impl fmt::Display for Tally {
+    fn fmt(&self, f: &mut fmt::Formatter) -> fmt::Result {
+        let mut row = |name: &str, counts: [usize; 8]| {
+            write!(f, "{name:6}")?;
+            for count in counts {
+                write!(f, " {count:>7}")?;
+            }
+            writeln!(f)
+        };
+        row("number", [0, 1, 2, 3, 4, 5, 6, 7])?;
+        row("cases", self.cases)?;
+        row("calls", self.calls)?;
+        writeln!(f, "plans with a choice of moves: {}", self.choices)?;
+        let near: Vec<String> = self
+            .near
+            .iter()
+            .map(|(kind, count)| format!("{kind} {count}"))
+            .collect();
+        writeln!(f, "plans with N from {NEAR} on: {}", near.join(", "))?;
+        write!(
+            f,
+            "tours judged: {}; plans all of whose short tours were tried: {}, \
+             settled by them {}, with a tie {}",
+            self.tours_judged, self.tried, self.settled, self.tied
+        )
+    }
+}
