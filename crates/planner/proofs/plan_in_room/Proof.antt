@@ -9,7 +9,7 @@ use Rattle.planner.proofs.plan_in_arrays.Reads as plan-in-arrays-reads
 
 -- src/lib.rt:266:5
 plan-in-arrays-requires : tie.Need-plan-in-arrays-requires
-plan-in-arrays-requires c κs = let s = c .before .before .before .before .before .before .before .before .before .before .before .before .before .before in (s .pre .0, zeros-blank 152597, zeros-blank 2048, zeros-blank 2048, zeros-blank 2048, s .pre .1, ones-mark 2048)
+plan-in-arrays-requires c κs = let s = c .before .before .before .before .before .before .before .before .before .before .before .before .before .before in (s .pre .0, zeros-blank 416789, zeros-blank 2048, zeros-blank 2048, zeros-blank 2048, s .pre .1, ones-mark 2048)
 
 -- src/lib.rt:252:1
 same-length : tie.Need-same-length
