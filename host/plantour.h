@@ -49,6 +49,13 @@ extern "C" {
 #define PLANTOUR_LOOP_BYTES   20480
 
 /*
+** The stack that a call needs, in bytes: what was measured on plans of all
+** kinds, and some to spare.  A thread that calls plan_tour() should have more,
+** for itself.
+*/
+#define PLANTOUR_STACK_BYTES  524288
+
+/*
 ** What plan_tour() returns.  Of several causes the first in this order counts:
 ** PLANTOUR_BLOCK, PLANTOUR_LONG, the first faulty line (PLANTOUR_FORM before
 ** PLANTOUR_RANGE on the same line), PLANTOUR_LARGE, PLANTOUR_BUFFER,

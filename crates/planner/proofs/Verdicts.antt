@@ -1,5 +1,5 @@
 -- The verdict as the code comes to it, and the promise from an answer that is told and written.
---   zeros-blank, ones-mark     == fresh tables
+--   zeros-blank                == fresh tables
 --   short-runin, short-loop    == a buffer is too short
 --   roomy-planned              == both have room: what planning comes to is what is told
 --   read-ok                    == a plan that was read is well formed and small
@@ -28,17 +28,12 @@ use Rattle.reader.specs.declared.Outcome.the-variants as outcome
 use Rattle.answer.specs.Block.{blockOf}
 use Rattle.answer.specs.declared.Answer.{Answer}
 use Rattle.planner.specs.Promise.{Verdict, verdict, refuse, go, choose, refusalAnswer, Planned, none, tour, Refused, Told, Buffers, buffers, TooShort, Answered, Promise}
-use Rattle.planner.specs.Tables.{Small, Rooms, Marks}
+use Rattle.planner.specs.Tables.{Small, Rooms}
 
 pub zeros-blank : (n u : ℕ) → _≡_ {A = ℕ} (getD (replicate n 0) u 0) 0
 zeros-blank zero u = refl
 zeros-blank (suc n) zero = refl
 zeros-blank (suc n) (suc u) = zeros-blank n u
-
-pub ones-mark : (n v : ℕ) → v < n → 0 < getD (replicate n 1) v 0
-ones-mark zero v h = absurd (omega arith)
-ones-mark (suc n) zero h = omega arith
-ones-mark (suc n) (suc v) h = ones-mark n v (omega arith)
 
 and-no : (b : Bool) → (b && false) ≡ false
 and-no true = refl

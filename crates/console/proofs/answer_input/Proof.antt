@@ -6,73 +6,52 @@ use Rattle.console.proofs.Prefixes.{prefix-long}
 use borrow.Author.Needs.{needs}
 use Rattle.console.proofs.answer_input.Statement.{statement}
 use Rattle.console.proofs.answer_input.Tie as tie
-use Rattle.console.proofs.answer_input.Reads as reads
-use Rattle.console.proofs.answer_input.Lts as lts
-use Rattle.io.proofs.read_full.Reads as read-full-reads
-use Rattle.planner.proofs.file_answer.Reads as file-answer-reads
-use Rattle.console.proofs.print_answer.Reads as print-answer-reads
 
--- src/main.rt:20:9
 read-full-requires : tie.Need-read-full-requires
 read-full-requires c κs = search needs
 
--- src/main.rt:21:25
 slice-reshare-prefix-file-answer : tie.Need-slice-reshare-prefix-file-answer
 slice-reshare-prefix-file-answer c = search needs
 
--- src/main.rt:21:25
 slice-aggregate-file-answer : tie.Need-slice-aggregate-file-answer
 slice-aggregate-file-answer c = search needs
 
--- src/main.rt:21:9
 file-answer-requires : tie.Need-file-answer-requires
 file-answer-requires c κs = search needs
 
--- src/main.rt:22:16
 cast-stem : tie.Need-cast-stem
 cast-stem c = search needs
 
--- src/main.rt:23:16
 cast-turn : tie.Need-cast-turn
 cast-turn c = search needs
 
--- src/main.rt:24:21
 slice-reshare-prefix-print-answer : tie.Need-slice-reshare-prefix-print-answer
 slice-reshare-prefix-print-answer c = told-fits _ _ _ _ _ _ (c .before .before .before .before .before .before .file-answer .ensures) .0
 
--- src/main.rt:24:21
 slice-aggregate-print-answer : tie.Need-slice-aggregate-print-answer
 slice-aggregate-print-answer c = prefix-long _ _ (told-fits _ _ _ _ _ _ (c .before .before .before .before .before .before .before .file-answer .ensures) .0)
 
--- src/main.rt:24:37
 slice-reshare-prefix-print-answer-2 : tie.Need-slice-reshare-prefix-print-answer-2
 slice-reshare-prefix-print-answer-2 c = told-fits _ _ _ _ _ _ (c .before .before .before .before .before .before .before .file-answer .ensures) .1
 
--- src/main.rt:24:37
 slice-aggregate-print-answer-2 : tie.Need-slice-aggregate-print-answer-2
 slice-aggregate-print-answer-2 c = prefix-long _ _ (told-fits _ _ _ _ _ _ (c .before .before .before .before .before .before .before .before .file-answer .ensures) .1)
 
--- src/main.rt:24:5
 print-answer-requires : tie.Need-print-answer-requires
 print-answer-requires c κs = simp length-take (omega (arith, c .before .before .before .before .before .before .before .before .before .file-answer .kept, c .before .before .before .before .before .before .before .before .before .before .before .before .before .before .before .before .before .before .before .before .before .pre))
 
--- src/main.rt:17:1
 same-length : tie.Need-same-length
 same-length c = search needs
 
--- src/main.rt:17:1
 same-length-2 : tie.Need-same-length-2
 same-length-2 c = search needs
 
--- src/main.rt:17:1
 same-length-3 : tie.Need-same-length-3
 same-length-3 c = search needs
 
--- src/main.rt:17:1
 same-length-4 : tie.Need-same-length-4
 same-length-4 c = search needs
 
--- src/main.rt:17:1
 returns : tie.Need-returns
 returns c = search needs
 

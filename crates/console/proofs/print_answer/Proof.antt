@@ -4,32 +4,22 @@ use Rattle.console.proofs.Prefixes.{written-le, prefix-long}
 use borrow.Author.Needs.{needs}
 use Rattle.console.proofs.print_answer.Statement.{statement}
 use Rattle.console.proofs.print_answer.Tie as tie
-use Rattle.console.proofs.print_answer.Reads as reads
-use Rattle.console.proofs.print_answer.Lts as lts
-use Rattle.answer.proofs.write_text.Reads as write-text-reads
-use Rattle.io.proofs.write_all.Reads as write-all-reads
 
--- src/main.rt:13:9
 write-text-requires : tie.Need-write-text-requires
 write-text-requires c κs = search needs
 
--- src/main.rt:14:34
 slice-reshare-prefix-write-all : tie.Need-slice-reshare-prefix-write-all
 slice-reshare-prefix-write-all c = let a = c .before .before .before .before .before .before .before .args in written-le (textOf (a .a) (a .runin .now) (a .cycle .now)) (a .out .now) _ _ (c .before .before .write-text .ensures .0) (c .before .before .write-text .ensures .1)
 
--- src/main.rt:14:34
 slice-aggregate-write-all : tie.Need-slice-aggregate-write-all
 slice-aggregate-write-all c = let a = c .before .before .before .before .before .before .before .before .args in prefix-long _ _ (written-le (textOf (a .a) (a .runin .now) (a .cycle .now)) (a .out .now) _ _ (c .before .before .before .write-text .ensures .0) (c .before .before .before .write-text .ensures .1))
 
--- src/main.rt:14:5
 write-all-requires : tie.Need-write-all-requires
 write-all-requires c κs = search needs
 
--- src/main.rt:10:1
 same-length : tie.Need-same-length
 same-length c = search needs
 
--- src/main.rt:10:1
 returns : tie.Need-returns
 returns c = search needs
 

@@ -6,45 +6,31 @@ use Rattle.reader.proofs.WellRead.{read-well, read-small}
 use borrow.Author.Needs.{needs}
 use Rattle.planner.proofs.file_answer.Statement.{statement}
 use Rattle.planner.proofs.file_answer.Tie as tie
-use Rattle.planner.proofs.file_answer.Reads as reads
-use Rattle.planner.proofs.file_answer.Lts as lts
-use Rattle.planner.proofs.plan_answer.Reads as plan-answer-reads
-use Rattle.planner.proofs.refusal_answer.Reads as refusal-answer-reads
-use Rattle.reader.proofs.read_plan.Reads as read-plan-reads
 
--- src/lib.rt:304:9
 read-plan-requires : tie.Need-read-plan-requires
 read-plan-requires c κs = search needs
 
--- src/lib.rt:308:41
 enum-told : tie.Need-enum-told
 enum-told c = search needs
 
--- src/lib.rt:308:26
 plan-answer-requires : tie.Need-plan-answer-requires
 plan-answer-requires c κs = read-ok (c .before .before .before .before .before .before .before .before .before .args .plan .now) _ (c .before .before .before .before .before .read-plan .ensures) (c .before .before .enum-told .given .1)
 
--- src/lib.rt:309:26
 enum-known-outcome : tie.Need-enum-known-outcome
 enum-known-outcome c = search needs
 
--- src/lib.rt:309:32
 refusal-answer-requires : tie.Need-refusal-answer-requires
 refusal-answer-requires c κs = search needs
 
--- src/lib.rt:301:1
 same-length : tie.Need-same-length
 same-length c = search needs
 
--- src/lib.rt:301:1
 same-length-2 : tie.Need-same-length-2
 same-length-2 c = search needs
 
--- src/lib.rt:301:1
 returns : tie.Need-returns
 returns c = let a = c .before .before .before .before .before .before .before .before .before .before .before .before .before .before .args in read-told (a .plan .now) _ (c .before .before .before .before .before .before .before .before .before .before .read-plan .ensures) (a .runin .now) (a .cycle .now) _ _ _ (c .before .before .before .before .before .before .before .enum-told .given .1) (c .before .before .before .before .plan-answer .ensures)
 
--- src/lib.rt:301:1
 returns-2 : tie.Need-returns-2
 returns-2 c = let a = c .before .before .before .before .before .before .before .before .before .args in refused-told (a .plan .now) _ (c .before .before .before .before .before .read-plan .ensures) (a .runin .now) (a .cycle .now) _ _ (c .before .before .outcome .given .1) (c .refusal-answer .ensures)
 

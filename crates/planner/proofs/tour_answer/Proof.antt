@@ -9,43 +9,32 @@ use Rattle.planner.proofs.Steps.{cost-small}
 use borrow.Author.Needs.{needs}
 use Rattle.planner.proofs.tour_answer.Statement.{statement}
 use Rattle.planner.proofs.tour_answer.Tie as tie
-use Rattle.planner.proofs.tour_answer.Reads as reads
-use Rattle.planner.proofs.tour_answer.Lts as lts
-use Rattle.plan.proofs.cost_of.Reads as cost-of-reads
 
 -- the answer as its cost makes it
 abbrev cost-answer : ℕ → ℕ → ℕ → ℕ → Answer
 cost-answer k s l x = record { number = 0; line = 0; cost = x; kept = k; count = ones k; stem = s; cycle = l }
 
--- src/lib.rt:66:34
 cast-cost-of : tie.Need-cast-cost-of
 cast-cost-of c = search needs
 
--- src/lib.rt:66:9
 cost-of-requires : tie.Need-cost-of-requires
 cost-of-requires c κs = search needs
 
--- src/lib.rt:70:15
 cast-t10 : tie.Need-cast-t10
 cast-t10 c = omega (arith, c .cost-of .ensures .0, cost-small (c .before .before .before .before .args .p) (c .before .before .before .before .pre .0) (c .before .before .before .before .args .mask / 2))
 
--- src/lib.rt:71:15
 cast-t11 : tie.Need-cast-t11
 cast-t11 c = search needs
 
--- src/lib.rt:72:32
 cast-t12 : tie.Need-cast-t12
 cast-t12 c = search needs
 
--- src/lib.rt:73:15
 cast-t14 : tie.Need-cast-t14
 cast-t14 c = search needs
 
--- src/lib.rt:74:16
 cast-t15 : tie.Need-cast-t15
 cast-t15 c = search needs
 
--- src/lib.rt:60:1
 returns : tie.Need-returns
 returns c = let a = c .before .before .before .before .args in ap (cost-answer (a .mask / 2) (a .stem) (a .cycle)) (c .cost-of .ensures .0)
 
