@@ -2,19 +2,17 @@
 -- component offers is within what may occur in its class, and its key is no smaller than that of the class.
 --   best-by, none-by == a passed test, and what is offered
 --   walks-by         == a passed test, and a walk
-use mathlib.Core.Path.{_≡_, refl, sym, ap, _∙_}
-use mathlib.Core.Bool.{Bool, true, false, not, _&&_, _||_}
+use mathlib.Core.Path.{_≡_, refl}
+use mathlib.Core.Bool.{Bool, true, false, _&&_}
 use mathlib.Core.List.{List, [], _∷_}
-use Prim.Native.Nat.{ℕ, zero, suc, _^_, _≤_, _<_}
+use Prim.Native.Nat.{ℕ, suc, _≤_, _<_}
 use native.Mathlib.Nat.{le-refl, le-trans}
 use native.Mathlib.Omega.{arith}
 use borrow.Author.Tests.{eqb-true, eq-eqb, leb-true, ltb-true}
-use lib.ListN.{length, getD}
+use lib.ListN.{getD}
 use lib.Dec.{eqb, leb, ltb}
 use Rattle.automata.specs.Automaton.{final}
-use Rattle.automata.specs.Bits.{bit}
 use Rattle.automata.proofs.Any.{and-intro, and-left, and-right, false-not-true}
-use Rattle.automata.proofs.Bits.{bit-zero}
 use Rattle.graph.specs.Paths.{Star, here, snoc, Plus, plus, Mutual, Walk, arrived, leave}
 use Rattle.graph.proofs.Paths.{star-one}
 use Rattle.plan.specs.WellFormed.{soft}
@@ -24,9 +22,9 @@ use Rattle.plan.specs.Key.{key}
 use Rattle.plan.specs.declared.Plan.{Plan}
 use Rattle.plan.proofs.Keys.{key-mono}
 use Rattle.product.specs.Net.{allBelow}
-use Rattle.compile.specs.Product.{startNode, arcOf, hardOf, softOf}
-use Rattle.optimality.specs.Offer.{Edge, Colour, asked, Offers, Choice, Nothing}
-use Rattle.optimality.proofs.Arcs.{all-elim}
+use Rattle.compile.specs.Product.{arcOf, hardOf, softOf}
+use Rattle.optimality.specs.Offer.{Edge, Colour, Offers, Choice, Nothing}
+use Rattle.product.proofs.Tests.{all-elim}
 use Rattle.figures.specs.Certificate.{Certificate, classOf, hardIn, keptIn, implies, sound, falling, inner, bestBy, noneBy, walksBy}
 
 pub mp : (a b : Bool) → implies a b ≡ true → a ≡ true → b ≡ true
@@ -39,8 +37,8 @@ module _ (p : Plan) (c : Certificate) (fits : sound p c ≡ true) (falls : falli
   edge-class u v e =
       leb-true _ _
       (mp (arcOf p u v) (leb (classOf c v) (classOf c u))
-      (all-elim (size p) (λ v. implies (arcOf p u v) (leb (classOf c v) (classOf c u)))
-      (all-elim (size p) (λ u. allBelow (size p) (λ v. implies (arcOf p u v) (leb (classOf c v) (classOf c u)))) falls u (e .from)) v (e .to))
+      (all-elim (λ v. implies (arcOf p u v) (leb (classOf c v) (classOf c u))) (size p)
+      (all-elim (λ u. allBelow (size p) (λ v. implies (arcOf p u v) (leb (classOf c v) (classOf c u)))) (size p) falls u (e .from)) v (e .to))
       (e .arc))
 
   star-class : {u v : ℕ} → Star (Edge p) u v → classOf c v ≤ classOf c u
@@ -54,10 +52,10 @@ module _ (p : Plan) (c : Certificate) (fits : sound p c ≡ true) (falls : falli
       → (implies (final (p .hard) (hardOf p v)) (hardIn c (classOf c v)) && allBelow (p .rules) (λ i. implies (final (soft p i) (softOf p i v)) (keeps (keptIn c (classOf c v)) i))) ≡ true
   unfolding sound
   node-fits v h =
-      all-elim (size p)
-      (λ v.
+      all-elim (λ v.
       implies (final (p .hard) (hardOf p v)) (hardIn c (classOf c v))
       && allBelow (p .rules) (λ i. implies (final (soft p i) (softOf p i v)) (keeps (keptIn c (classOf c v)) i)))
+      (size p)
       fits v h
 
   hard-fits : (v : ℕ) → v < size p → Colour p 0 v → hardIn c (classOf c v) ≡ true
@@ -66,7 +64,7 @@ module _ (p : Plan) (c : Certificate) (fits : sound p c ≡ true) (falls : falli
   soft-fits : (v i : ℕ) → v < size p → i < p .rules → Colour p (suc i) v → keeps (keptIn c (classOf c v)) i ≡ true
   soft-fits v i h l e =
       mp (final (soft p i) (softOf p i v)) _
-      (all-elim (p .rules) (λ i. implies (final (soft p i) (softOf p i v)) (keeps (keptIn c (classOf c v)) i))
+      (all-elim (λ i. implies (final (soft p i) (softOf p i v)) (keeps (keptIn c (classOf c v)) i)) (p .rules)
       (and-right (implies (final (p .hard) (hardOf p v)) (hardIn c (classOf c v))) _ (node-fits v h)) i l)
       e
 
@@ -102,8 +100,8 @@ module _ (p : Plan) (c : Certificate) (fits : sound p c ≡ true) (falls : falli
             let same : classOf c v ≡ classOf c x = mutual-class (record { to = star-one e; from = s }) in
             mp (eqb (classOf c v) (classOf c x) && hardIn c (classOf c v)) (q (classOf c v))
             (mp (arcOf p v x) _
-            (all-elim (size p) (λ x. implies (arcOf p v x) (implies (eqb (classOf c v) (classOf c x) && hardIn c (classOf c v)) (q (classOf c v))))
-            (all-elim (size p) (λ v. allBelow (size p) (λ x. implies (arcOf p v x) (implies (eqb (classOf c v) (classOf c x) && hardIn c (classOf c v)) (q (classOf c v))))) h v (e .from)) x (e .to))
+            (all-elim (λ x. implies (arcOf p v x) (implies (eqb (classOf c v) (classOf c x) && hardIn c (classOf c v)) (q (classOf c v)))) (size p)
+            (all-elim (λ v. allBelow (size p) (λ x. implies (arcOf p v x) (implies (eqb (classOf c v) (classOf c x) && hardIn c (classOf c v)) (q (classOf c v))))) (size p) h v (e .from)) x (e .to))
             (e .arc))
             (and-intro (eq-eqb _ _ same) has-hard)
 

@@ -1,5 +1,5 @@
 -- One lemma over the list of figures: a figure that passes its test holds.
-use mathlib.Core.Path.{_≡_, refl, sym, ap, ap₂, _∙_}
+use mathlib.Core.Path.{_≡_, refl, ap, ap₂}
 use mathlib.Core.Bool.{Bool, true, false, _&&_}
 use mathlib.Core.List.{List, [], _∷_, map}
 use Prim.Native.Nat.{ℕ, zero, suc, _^_, _<_}
@@ -7,7 +7,7 @@ use native.Mathlib.Omega.{arith}
 use borrow.Author.Tests.{eqb-true, ltb-true}
 use lib.Count.{ones, onesIn}
 use lib.ListN.{length, getD}
-use lib.Dec.{eqb, ltb}
+use lib.Dec.{eqb}
 use Rattle.automata.specs.Automaton.{anyBelow, guard, fits, leads, step, blocked, trapStep, final}
 use Rattle.automata.specs.Bits.{bit}
 use Rattle.automata.proofs.Any.{any-elim, and-left, and-right, false-not-true}
@@ -25,7 +25,7 @@ use Rattle.plan.specs.declared.Refusal.the-variants as refusal
 use Rattle.planner.specs.Promise.{verdict, refuse, go, choose}
 use Rattle.graph.specs.Paths.{Walk}
 use Rattle.optimality.specs.Offer.{Edge, Choice}
-use Rattle.optimality.proofs.Arcs.{all-elim}
+use Rattle.product.proofs.Tests.{all-elim}
 use Rattle.optimality.proofs.Best.{tour-best, tour-none, exact}
 use Rattle.optimality.proofs.Witness.{witness-lasso, witness-hard, witness-soft}
 use Rattle.figures.specs.Certificate.{Certificate, implies, sound, falling, inner, bestBy, noneBy, walksBy, allOf}
@@ -88,7 +88,7 @@ module _ (p : Plan) (n c k count : ℕ) (by : Certificate) (r : Route) (h : allO
   unfolding stem cycle
   softs i l e =
       let q : ℕ → Bool = λ i. implies (keeps k i) (meets r (λ v. final (soft p i) (softOf p i v))) in
-      let m = any-elim (λ t. final (soft p i) (softOf p i (getD (r .cycle) t (r .home)))) (suc (length (r .cycle))) (mp (keeps k i) _ (all-elim (p .rules) q (test 10) i l) e) in
+      let m = any-elim (λ t. final (soft p i) (softOf p i (getD (r .cycle) t (r .home)))) (suc (length (r .cycle))) (mp (keeps k i) _ (all-elim q (p .rules) (test 10) i l) e) in
       witness-soft p ok (r .home) (r .stem) (r .cycle) stem-walk cycle-walk filled i l (m .0) (omega arith) (m .2)
 
   best-holds : BestIs p n c k count

@@ -1,8 +1,8 @@
 -- A plan that passes `wellFormed` is well formed. Lists may be shorter than a struct's arrays: past its end a list reads 0.
 use mathlib.Core.Path.{_≡_, refl}
-use mathlib.Core.Bool.{Bool, true, false, _&&_}
+use mathlib.Core.Bool.{Bool, true, _&&_}
 use mathlib.Core.List.{List, [], _∷_}
-use Prim.Native.Nat.{ℕ, zero, suc, _^_, _≤_, _<_}
+use Prim.Native.Nat.{ℕ, zero, suc, _^_, _<_}
 use native.Mathlib.Decide.{decLt}
 use native.Mathlib.Omega.{arith}
 use borrow.Author.Tests.{ltb-true, leb-true}
@@ -14,15 +14,14 @@ use Rattle.automata.specs.declared.Automaton.{Automaton}
 use Rattle.automata.proofs.Any.{and-left, and-right}
 use Rattle.plan.specs.WellFormed.{soft, weight, WellFormed}
 use Rattle.plan.specs.declared.Plan.{Plan}
-use Rattle.product.specs.Net.{allBelow}
-use Rattle.optimality.proofs.Arcs.{all-elim}
+use Rattle.product.proofs.Tests.{all-elim}
 use Rattle.figures.specs.Certificate.{allOf, below, automatonTests, ruleTests, planTests, wellFormed}
 
 below-sound : (n : ℕ) (xs : List ℕ) → below n xs ≡ true → Below n xs
 below-sound n xs h i = by (decLt i (length xs))
   where
     by : Dec (i < length xs) → getD xs i 0 < n
-    by (yes l) = ltb-true _ n (all-elim (length xs) (λ i. ltb (getD xs i 0) n) (and-right (ltb 0 n) _ h) i l)
+    by (yes l) = ltb-true _ n (all-elim (λ i. ltb (getD xs i 0) n) (length xs) (and-right (ltb 0 n) _ h) i l)
     by (no l) = rw (List·getD-eq-default xs 0 {n = i} (omega arith)) (ltb-true 0 n (and-left (ltb 0 n) _ h))
 
 zero-from : (n : ℕ) (xs : List ℕ) → leb (length xs) n ≡ true → ZeroFrom n xs
@@ -80,4 +79,4 @@ well-formed p h = record {
     test = all-nth (planTests p) h
 
     rule : (i : ℕ) → i < p .rules → (j : ℕ) → getD (ruleTests p i) j true ≡ true
-    rule i l = all-nth (ruleTests p i) (all-elim (p .rules) (λ i. allOf (ruleTests p i)) (test 10) i l)
+    rule i l = all-nth (ruleTests p i) (all-elim (λ i. allOf (ruleTests p i)) (p .rules) (test 10) i l)

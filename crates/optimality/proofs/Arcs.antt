@@ -1,33 +1,17 @@
 -- The parts of an arc of the product graph.
---   all-intro, all-elim          == a test holds of every number below n
 --   arc-road, arc-hard, arc-soft == what an arc says of the places, the hard rule, a soft rule
 --   arc-made                     == and back
-use mathlib.Core.Path.{_≡_, refl, subst}
+use mathlib.Core.Path.{_≡_}
 use mathlib.Core.Bool.{Bool, true, _&&_}
-use Prim.Native.Nat.{ℕ, zero, suc, _<_}
-use native.Mathlib.Decide.{decLt}
-use native.Mathlib.Omega.{arith}
+use Prim.Native.Nat.{ℕ, _<_}
 use Rattle.automata.specs.Automaton.{step, trapStep}
 use Rattle.automata.proofs.Any.{and-intro, and-left, and-right}
 use Rattle.plan.specs.WellFormed.{soft}
 use Rattle.plan.specs.Tour.{joins, label}
 use Rattle.plan.specs.declared.Plan.{Plan}
 use Rattle.product.specs.Net.{allBelow}
+use Rattle.product.proofs.Tests.{all-intro, all-elim}
 use Rattle.compile.specs.Product.{placeOf, hardOf, softOf, arcOf}
-
-pub all-intro : (n : ℕ) (q : ℕ → Bool) → ((i : ℕ) → i < n → q i ≡ true) → allBelow n q ≡ true
-unfolding allBelow
-all-intro zero q h = refl
-all-intro (suc n) q h = and-intro (all-intro n q (λ i l. h i (omega arith))) (h n (omega arith))
-
-pub all-elim : (n : ℕ) (q : ℕ → Bool) → allBelow n q ≡ true → (i : ℕ) → i < n → q i ≡ true
-unfolding allBelow
-all-elim zero q h i l = absurd (omega arith)
-all-elim (suc n) q h i l = at (decLt i n) (all-elim n q (and-left (allBelow n q) (q n) h) i)
-  where
-    at : Dec (i < n) → (i < n → q i ≡ true) → q i ≡ true
-    at (yes y) ih = ih y
-    at (no y) ih = let e : n ≡ i = omega arith in subst (λ j. q j ≡ true) e (and-right (allBelow n q) (q n) h)
 
 module _ (p : Plan) (u w : ℕ) where
   road : Bool
@@ -49,9 +33,9 @@ module _ (p : Plan) (u w : ℕ) where
 
   pub arc-soft : arcOf p u w ≡ true → (i : ℕ) → i < p .rules → trapStep (soft p i) (label p (placeOf p u)) (softOf p i u) (softOf p i w) ≡ true
   unfolding arcOf road hard softs
-  arc-soft e i h = all-elim (p .rules) softs (and-right (road && hard) (allBelow (p .rules) softs) e) i h
+  arc-soft e i h = all-elim softs (p .rules) (and-right (road && hard) (allBelow (p .rules) softs) e) i h
 
   pub arc-made : joins p (placeOf p u) (placeOf p w) ≡ true → step (p .hard) (label p (placeOf p u)) (hardOf p u) (hardOf p w) ≡ true
       → ((i : ℕ) → i < p .rules → trapStep (soft p i) (label p (placeOf p u)) (softOf p i u) (softOf p i w) ≡ true) → arcOf p u w ≡ true
   unfolding arcOf
-  arc-made r h s = and-intro (and-intro r h) (all-intro (p .rules) _ s)
+  arc-made r h s = and-intro (and-intro r h) (all-intro _ (p .rules) s)

@@ -1,18 +1,16 @@
 -- The verdict as the code comes to it, and the promise from an answer that is told and written.
---   zeros-blank                == fresh tables
 --   short-runin, short-loop    == a buffer is too short
 --   roomy-planned              == both have room: what planning comes to is what is told
---   read-ok                    == a plan that was read is well formed and small
 --   refused-told, read-told    == a plan file that is turned away, and one that is read
 --   told-fits                  == the lengths that are told lie within the buffers
 --   block-short, block-told    == the answer block is too short, or the answer stands in it
 use mathlib.Core.Path.{_≡_, refl, sym, ap, _∙_, subst}
 use mathlib.Core.Bool.{Bool, true, false, _&&_}
 use mathlib.Core.List.{List, _++_}
-use Prim.Native.Nat.{ℕ, zero, suc, _+_, _*_, _≤_, _<_}
+use Prim.Native.Nat.{ℕ, _+_, _*_, _≤_, _<_}
 use native.Mathlib.Omega.{arith}
 use borrow.Author.Tests.{lt-leb, le-leb, lt-ltb, le-ltb}
-use lib.ListN.{length, getD, drop, replicate, length-append}
+use lib.ListN.{length, drop, length-append}
 use lib.Dec.{leb}
 use Rattle.plan.specs.Size.{size, loopRoom, roomy}
 use Rattle.plan.specs.Refusal.{number}
@@ -20,20 +18,12 @@ use Rattle.plan.specs.declared.Plan.{Plan}
 use Rattle.plan.specs.declared.Refusal.{Refusal}
 use Rattle.plan.specs.declared.Refusal.the-variants as refusal
 use Rattle.reader.specs.Reading.{readPlan}
-use Rattle.reader.specs.declared.Outcome.{Outcome}
 use Rattle.reader.specs.declared.Reading.{Reading}
-use Rattle.reader.proofs.WellRead.{read-well, read-small}
-use Rattle.plan.specs.WellFormed.{WellFormed}
 use Rattle.reader.specs.declared.Outcome.the-variants as outcome
 use Rattle.answer.specs.Block.{blockOf}
 use Rattle.answer.specs.declared.Answer.{Answer}
-use Rattle.planner.specs.Promise.{Verdict, verdict, refuse, go, choose, refusalAnswer, Planned, none, tour, Refused, Told, Buffers, buffers, TooShort, Answered, Promise}
-use Rattle.planner.specs.Tables.{Small, Rooms}
-
-pub zeros-blank : (n u : ℕ) → _≡_ {A = ℕ} (getD (replicate n 0) u 0) 0
-zeros-blank zero u = refl
-zeros-blank (suc n) zero = refl
-zeros-blank (suc n) (suc u) = zeros-blank n u
+use Rattle.planner.specs.Promise.{Verdict, verdict, refuse, go, refusalAnswer, Planned, none, tour, Refused, Told, Buffers, buffers, Promise}
+use Rattle.planner.specs.Tables.{Rooms}
 
 and-no : (b : Bool) → (b && false) ≡ false
 and-no true = refl
@@ -69,11 +59,6 @@ rooms p n r l h k = record { stem = h; cycle = let e : p .rules + 1 + 1 ≡ p .r
 
 -- what the reader answered is what the plan file reads as
 module _ (plan : List ℕ) (r : Reading) (same : r ≡ readPlan plan) where
-  pub read-ok : r .outcome ≡ outcome.Plan → WellFormed (r .plan) × (size (r .plan) ≤ 2048)
-  read-ok e =
-      let o : readPlan plan .outcome ≡ outcome.Plan = ap (λ x. x .outcome) (sym same) ∙ e in
-      subst (λ x. WellFormed (x .plan) × (size (x .plan) ≤ 2048)) (sym same) (read-well plan o, read-small plan o)
-
   pub read-told : (runin loop runin′ loop′ : List ℕ) (a : Answer) → r .outcome ≡ outcome.Plan
       → Told (verdict outcome.Plan (r .plan) (length runin) (length loop)) runin loop runin′ loop′ a
       → Told (verdict (readPlan plan .outcome) (readPlan plan .plan) (length runin) (length loop)) runin loop runin′ loop′ a

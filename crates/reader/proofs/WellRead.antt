@@ -1,7 +1,7 @@
--- A plan that was read is well formed, and its product has a size of at most 2,048 (`read-well`, `read-small`); where a plan is turned
+-- A plan that was read is well formed, and its product has a size of at most 2,048 (`read-well`, `read-small`; `read-ok` of an answer); where a plan is turned
 -- away, the plan of the answer is empty (`refused-empty`). The answer is a plan only where the text is short enough, no line has a fault
 -- and the size is small; then every block was read without a fault.
-use mathlib.Core.Path.{_≡_, refl}
+use mathlib.Core.Path.{_≡_, refl, sym, ap, _∙_, subst}
 use mathlib.Core.Bool.{Bool, true, false}
 use mathlib.Core.List.{List}
 use Prim.Native.Nat.{ℕ, _^_, _≤_}
@@ -25,6 +25,7 @@ use Rattle.reader.specs.declared.line.Line.the-variants as line
 use Rattle.reader.specs.declared.block.LabelBlock.{LabelBlock}
 use Rattle.reader.specs.declared.block.AutomatonBlock.{AutomatonBlock}
 use Rattle.reader.specs.declared.block.SoftBlocks.{SoftBlocks}
+use Rattle.reader.specs.declared.Reading.{Reading}
 use Rattle.reader.specs.declared.Outcome.the-variants as outcome
 use Rattle.reader.proofs.Sticky.{labels-keep, roads-keep, hard-keeps, softs-keep}
 use Rattle.reader.proofs.Columns.{column-below, labels-filled, roads-filled}
@@ -158,6 +159,12 @@ module _ (s : List ℕ) (e : readPlan s .outcome ≡ outcome.Plan) where
 
   pub read-small : size (readPlan s .plan) ≤ 2048
   read-small = rw (passed .same) (passed .small)
+
+-- the same of what the reader answered
+pub read-ok : (s : List ℕ) (r : Reading) → r ≡ readPlan s → r .outcome ≡ outcome.Plan → WellFormed (r .plan) × (size (r .plan) ≤ 2048)
+read-ok s r same e =
+    let o : readPlan s .outcome ≡ outcome.Plan = ap (λ x. x .outcome) (sym same) ∙ e in
+    subst (λ x. WellFormed (x .plan) × (size (x .plan) ≤ 2048)) (sym same) (read-well s o, read-small s o)
 
 answer-empty : (l : Line) (p : Plan) (r : Refusal) → answer l p .outcome ≡ outcome.Refused r → answer l p .plan ≡ noPlan
 unfolding answer admit

@@ -1,8 +1,6 @@
 -- `file_answer` meets its contract: a plan that was read is well formed and small, and a refusal is told as it is.
-use Rattle.planner.proofs.Verdicts.{read-ok}
-use mathlib.Core.Path.{ap, sym, _∙_}
+use Rattle.reader.proofs.WellRead.{read-ok}
 use Rattle.planner.proofs.Verdicts.{read-told, refused-told}
-use Rattle.reader.proofs.WellRead.{read-well, read-small}
 use borrow.Author.Needs.{needs}
 use Rattle.planner.proofs.file_answer.Statement.{statement}
 use Rattle.planner.proofs.file_answer.Tie as tie

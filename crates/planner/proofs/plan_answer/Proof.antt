@@ -2,7 +2,7 @@
 use Prim.Native.Nat.{_+_, _≤_}
 use native.Mathlib.Omega.{arith}
 use native.Mathlib.Nat.{mul-le-mul-right}
-use Rattle.planner.proofs.Verdicts.{short-runin, short-loop, roomy-planned, rooms}
+use Rattle.planner.proofs.Verdicts.{short-runin, short-loop, roomy-planned}
 use borrow.Author.Needs.{needs}
 use Rattle.planner.proofs.plan_answer.Statement.{statement}
 use Rattle.planner.proofs.plan_answer.Tie as tie

@@ -1,5 +1,5 @@
 -- `plan_in_room` meets its contract: fresh tables are blank.
-use Rattle.planner.proofs.Verdicts.{zeros-blank}
+use Rattle.search.proofs.Fresh.{zeros-blank}
 use borrow.Author.Needs.{needs}
 use Rattle.planner.proofs.plan_in_room.Statement.{statement}
 use Rattle.planner.proofs.plan_in_room.Tie as tie

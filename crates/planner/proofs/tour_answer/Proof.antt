@@ -1,6 +1,5 @@
 -- `tour_answer` meets its contract: the cost is that of the kept byte, and small enough for its four bytes.
 use mathlib.Core.Path.{ap}
-use Rattle.planner.specs.Promise.{tourAnswer}
 use Rattle.answer.specs.declared.Answer.{Answer}
 use lib.Count.{ones}
 use native.Mathlib.Omega.{arith}

@@ -1,6 +1,6 @@
 -- `tell` is safe: a plan that was read is well formed and small.
 use borrow.Author.Needs.{needs}
-use Rattle.routes.proofs.Surveys.{read-ok}
+use Rattle.reader.proofs.WellRead.{read-ok}
 use Rattle.routes.proofs.input.tell.Statement.{statement}
 use Rattle.routes.proofs.input.tell.Tie as tie
 
