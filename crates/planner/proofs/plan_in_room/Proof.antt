@@ -5,7 +5,7 @@ use Rattle.planner.proofs.plan_in_room.Statement.{statement}
 use Rattle.planner.proofs.plan_in_room.Tie as tie
 
 plan-in-arrays-requires : tie.Need-plan-in-arrays-requires
-plan-in-arrays-requires c κs = let s = c .before .before .before .before .before .before .before .before .before .before .before .before .before in (s .pre .0, zeros-blank 416789, zeros-blank 2048, zeros-blank 2048, zeros-blank 2048, s .pre .1)
+plan-in-arrays-requires c κs = let s = c .before .before .before .before .before .before .before .before .before .before .before .before .before in (s .pre .0, zeros-blank 699415, zeros-blank 2048, zeros-blank 2048, zeros-blank 2048, s .pre .1)
 
 same-length : tie.Need-same-length
 same-length c = search needs
