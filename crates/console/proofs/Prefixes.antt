@@ -1,9 +1,9 @@
 -- Prefixes of buffers that hold what was written to their front.
 --   written-le  == a text at the front of a buffer is no longer than the buffer
 --   prefix-long == so long a prefix has so many entries
-use mathlib.Core.Path.{_≡_, sym, ap, _∙_}
+use mathlib.Core.Path.{_≡_, ap, _∙_}
 use mathlib.Core.List.{List, _++_}
-use Prim.Native.Nat.{ℕ, _+_, _*_, _≤_, min}
+use Prim.Native.Nat.{ℕ, _+_, _≤_}
 use native.Mathlib.Omega.{arith}
 use lib.ListN.{length, take, drop, length-append, length-take}
 

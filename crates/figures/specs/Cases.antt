@@ -4,7 +4,7 @@
 --   planX, withRoads, withHard, withSoft, planMarked == the plans of the cases
 --   certificateN, caseN         == case N and why it holds: nodes of the product graph are numbered by `nodeOf`
 --   figures                     == the list
-use mathlib.Core.Bool.{Bool, true, false}
+use mathlib.Core.Bool.{true, false}
 use mathlib.Core.List.{List, [], _∷_}
 use Prim.Native.Nat.{ℕ, _^_}
 use lib.ListN.{length}

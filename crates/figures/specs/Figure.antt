@@ -10,7 +10,7 @@
 use mathlib.Core.Path.{_≡_}
 use mathlib.Core.Bool.{Bool, true, false, _&&_}
 use mathlib.Core.List.{List, [], _∷_}
-use Prim.Native.Nat.{ℕ, suc, _^_, _<_}
+use Prim.Native.Nat.{ℕ, suc, _^_}
 use lib.Count.{ones}
 use lib.ListN.{length, getD}
 use lib.Dec.{eqb, ltb}
@@ -25,7 +25,7 @@ use Rattle.compile.specs.Product.{startNode, hardOf, softOf}
 use Rattle.serve.specs.Upcoming.{upcomingPlaces}
 use Rattle.plan.specs.declared.Refusal.the-variants as refusal
 use Rattle.reader.specs.declared.Outcome.the-variants as outcome
-use Rattle.planner.specs.Promise.{Verdict, verdict, refuse, go, choose}
+use Rattle.planner.specs.Promise.{verdict, refuse, go, choose}
 use Rattle.figures.specs.Certificate.{Certificate, implies, bestBy, noneBy, walksBy, allOf, wellFormed}
 
 pub record Route : Type 0 where

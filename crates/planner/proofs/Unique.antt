@@ -4,8 +4,7 @@
 --   answer-unique == two answers to one plan differ at most in the two lengths
 use mathlib.Core.Path.{_≡_, sym, ap, _∙_}
 use mathlib.Core.List.{List}
-use mathlib.Core.Logic.{_⊎_}
-use Prim.Native.Nat.{ℕ, _≤_}
+use Prim.Native.Nat.{ℕ}
 use native.Mathlib.Omega.{arith}
 use lib.Count.{ones}
 use Rattle.plan.specs.WellFormed.{WellFormed}
@@ -15,7 +14,7 @@ use Rattle.plan.specs.declared.Plan.{Plan}
 use Rattle.plan.proofs.Keys.{better-key, key-injective}
 use Rattle.plan.proofs.Tours.{best-kept}
 use Rattle.answer.specs.declared.Answer.{Answer}
-use Rattle.planner.specs.Promise.{TourOf, tourAnswer}
+use Rattle.planner.specs.Promise.{TourOf}
 
 module _ (p : Plan) (ok : WellFormed p) where
   pub best-unique : (k k′ : ℕ) → Best p k → Best p k′ → (stem cycle stem′ cycle′ : List ℕ) → IsLasso p stem cycle → Hard p stem cycle → KeptIs p stem cycle k
