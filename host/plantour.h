@@ -53,7 +53,7 @@ extern "C" {
 ** kinds, and some to spare.  A thread that calls plan_tour() should have more,
 ** for itself.
 */
-#define PLANTOUR_STACK_BYTES  524288
+#define PLANTOUR_STACK_BYTES  819200
 
 /*
 ** What plan_tour() returns.  Of several causes the first in this order counts:

@@ -4,3 +4,4 @@ pub mod Descents
 pub mod Components
 pub mod Judging
 pub mod Sweeps
+pub mod Reading

@@ -2,3 +2,4 @@ pub mod Best
 pub mod Order
 pub mod Component
 pub mod Sweep
+pub mod Reading

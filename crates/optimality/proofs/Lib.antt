@@ -1,5 +1,4 @@
 -- The bound of demand 3 and the tour that meets it, for the crates above.
-pub mod Arcs
 pub mod Nodes
 pub mod Bound
 pub mod Best
