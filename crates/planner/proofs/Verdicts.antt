@@ -23,7 +23,6 @@ use Rattle.reader.specs.declared.Outcome.the-variants as outcome
 use Rattle.answer.specs.Block.{blockOf}
 use Rattle.answer.specs.declared.Answer.{Answer}
 use Rattle.planner.specs.Promise.{Verdict, verdict, refuse, go, refusalAnswer, Planned, none, tour, Refused, Told, Buffers, buffers, Promise}
-use Rattle.planner.specs.Tables.{Rooms}
 
 and-no : (b : Bool) → (b && false) ≡ false
 and-no true = refl
@@ -53,9 +52,6 @@ module _ (p : Plan) (n : ℕ) (count : n ≡ size p) (runin loop : List ℕ) (a 
         let l : loopRoom p ≤ length loop = subst (λ x. (p .rules + 2) * x ≤ length loop) count k in
         let r : size p ≤ length runin = omega arith in
         rw (le-leb (size p) (length runin) r, le-leb (loopRoom p) (length loop) l) P
-
-pub rooms : (p : Plan) (n r l : ℕ) → n ≤ r → (p .rules + 2) * n ≤ l → Rooms p n r l
-rooms p n r l h k = record { stem = h; cycle = let e : p .rules + 1 + 1 ≡ p .rules + 2 = omega arith in rw e k }
 
 -- what the reader answered is what the plan file reads as
 module _ (plan : List ℕ) (r : Reading) (same : r ≡ readPlan plan) where
