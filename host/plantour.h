@@ -14,7 +14,7 @@
 **
 ** A host needs this header and the archive, and no more:
 **
-**     gcc host.c libplanner.a
+**     gcc host.c libmoxiltra.a
 */
 #ifndef PLANTOUR_H
 #define PLANTOUR_H

@@ -1,9 +1,9 @@
-//! PLANNER_ARCHIVE, if set, names the planner's static library to compare with.
+//! MOXILTRA_ARCHIVE, if set, names the static library to compare with.
 
 fn main() {
     println!("cargo::rustc-check-cfg=cfg(archive)");
-    println!("cargo::rerun-if-env-changed=PLANNER_ARCHIVE");
-    if let Ok(path) = std::env::var("PLANNER_ARCHIVE") {
+    println!("cargo::rerun-if-env-changed=MOXILTRA_ARCHIVE");
+    if let Ok(path) = std::env::var("MOXILTRA_ARCHIVE") {
         assert!(
             std::path::Path::new(&path).is_file(),
             "no archive at {path}"

@@ -1,6 +1,6 @@
 //! The planner under comparison, called as C calls it.
 //!
-//! Built with PLANNER_ARCHIVE set it is the entry of that archive, otherwise
+//! Built with MOXILTRA_ARCHIVE set it is the entry of that archive, otherwise
 //! the stand-in: the reference itself behind the same signature.
 
 /// `plan_tour` of `plantour.h`.
@@ -34,7 +34,7 @@ mod archive {
 #[cfg(archive)]
 pub const ENTRY: Entry = archive::plan_tour;
 #[cfg(archive)]
-pub const NAME: &str = env!("PLANNER_ARCHIVE");
+pub const NAME: &str = env!("MOXILTRA_ARCHIVE");
 
 #[cfg(not(archive))]
 pub const ENTRY: Entry = standin;
