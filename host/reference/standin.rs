@@ -1,8 +1,28 @@
-//! The reference as a static library with the planner's one exported name.
+//! The reference as a static library with the exported names of `plantour.h`.
 
-reference::entry! {
-    /// # Safety
-    /// As for every `entry!`.
-    #[unsafe(no_mangle)]
-    plan_tour, reference::entry::plan_tour
+use reference::entry;
+use std::slice::{from_raw_parts, from_raw_parts_mut};
+
+/// # Safety
+/// Each pointer is to so many bytes as the length behind it says, and no two of
+/// the four stretches overlap.
+#[unsafe(no_mangle)]
+pub unsafe extern "C" fn plan_tour(
+    plan: *const u8,
+    plan_len: usize,
+    answer: *mut u8,
+    answer_len: usize,
+    runin: *mut u8,
+    runin_len: usize,
+    cycle: *mut u8,
+    cycle_len: usize,
+) -> u32 {
+    unsafe {
+        entry::plan_tour(
+            from_raw_parts(plan, plan_len),
+            from_raw_parts_mut(answer, answer_len),
+            from_raw_parts_mut(runin, runin_len),
+            from_raw_parts_mut(cycle, cycle_len),
+        )
+    }
 }

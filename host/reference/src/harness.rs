@@ -3,13 +3,13 @@
 
 use crate::brute::{all_short_tours, chance_tours, Search};
 use crate::cases::Case;
-use crate::entry::{self, Block, BLOCK_BYTES};
+use crate::entry::{Block, BLOCK_BYTES};
 use crate::figures::Figure;
-use crate::library::Entry;
+use crate::library::{Library, REFERENCE};
 use crate::plan::Plan;
 use crate::random::Random;
 use crate::reader::read;
-use crate::reply::{call, Found, Lengths, Reply};
+use crate::reply::{Found, Lengths, Reply};
 use crate::tally::Tally;
 
 /// A plan with a larger N is planned less often.
@@ -18,7 +18,7 @@ const MUCH: u64 = 300;
 /// Puts the case to the library with several buffers. The error says what
 /// differed.
 pub fn check(
-    entry: Entry,
+    library: Library,
     case: &Case,
     random: &mut Random,
     tally: &mut Tally,
@@ -31,30 +31,30 @@ pub fn check(
     let further = if much(plan) { 1 } else { 3 };
     tally.case(|tally| {
         let salt = random.byte();
-        let found = one_call(entry, case, plan, exact(plan), salt, tally)?;
+        let found = one_call(library, case, plan, exact(plan), salt, tally)?;
         if let Some(plan) = plan {
             no_better_tour(plan, found, random, tally)?;
         }
         for _ in 0..further {
             let lengths = chance_lengths(plan, random);
-            one_call(entry, case, plan, lengths, random.byte(), tally)?;
+            one_call(library, case, plan, lengths, random.byte(), tally)?;
         }
         Ok(())
     })
 }
 
 /// Puts the case to the library once, with buffers as long as asked for.
-pub fn check_once(entry: Entry, case: &Case, tally: &mut Tally) -> Result<(), String> {
+pub fn check_once(library: Library, case: &Case, tally: &mut Tally) -> Result<(), String> {
     let plan = read(&case.file).ok();
     let lengths = exact(plan.as_ref());
     tally
-        .case(|tally| one_call(entry, case, plan.as_ref(), lengths, 0, tally))
+        .case(|tally| one_call(library, case, plan.as_ref(), lengths, 0, tally))
         .map(|_| ())
 }
 
 /// Puts the case to the library with every two buffers about the limits, and
 /// with every answer block of up to 40 bytes.
-pub fn check_limits(entry: Entry, case: &Case, tally: &mut Tally) -> Result<(), String> {
+pub fn check_limits(library: Library, case: &Case, tally: &mut Tally) -> Result<(), String> {
     let plan = read(&case.file).ok();
     let plan = plan.as_ref();
     let limits = exact(plan);
@@ -70,7 +70,7 @@ pub fn check_limits(entry: Entry, case: &Case, tally: &mut Tally) -> Result<(), 
     let blocks = blocks.map(|answer| Lengths { answer, ..limits });
     tally.case(|tally| {
         for (salt, lengths) in pairs.chain(blocks).enumerate() {
-            one_call(entry, case, plan, lengths, salt as u8, tally)?;
+            one_call(library, case, plan, lengths, salt as u8, tally)?;
         }
         Ok(())
     })
@@ -81,17 +81,15 @@ fn much(plan: Option<&Plan>) -> bool {
 }
 
 fn one_call(
-    entry: Entry,
+    library: Library,
     case: &Case,
     plan: Option<&Plan>,
     lengths: Lengths,
     salt: u8,
     tally: &mut Tally,
 ) -> Result<Found, String> {
-    let library = Reply::of(salt, case, lengths, |file, answer, run_in, cycle| {
-        call(entry, file, answer, run_in, cycle)
-    });
-    let reference = Reply::of(salt, case, lengths, entry::plan_tour);
+    let reference = Reply::of(salt, case, lengths, REFERENCE);
+    let library = Reply::of(salt, case, lengths, library);
     tally.calls[reference.returned as usize] += 1;
 
     let with_lengths = |what: String| format!("{what}\nbuffers: {lengths:?}");
@@ -107,16 +105,14 @@ fn one_call(
 
 /// Puts one of 01's cases to the library and looks for the answer that 01
 /// gives, whatever the reference says.
-pub fn check_figure(entry: Entry, figure: &Figure) -> Result<(), String> {
+pub fn check_figure(library: Library, figure: &Figure) -> Result<(), String> {
     let case = Case::new(figure.name, figure.file.clone());
     let lengths = Lengths {
         answer: BLOCK_BYTES,
         run_in: figure.buffers.0,
         cycle: figure.buffers.1,
     };
-    let reply = Reply::of(0, &case, lengths, |file, answer, run_in, cycle| {
-        call(entry, file, answer, run_in, cycle)
-    });
+    let reply = Reply::of(0, &case, lengths, library);
     reply.sound(read(&figure.file).ok().as_ref())?;
     let given = Block {
         number: figure.number as u8,

@@ -15,7 +15,7 @@
 //! | `damage` | faulty files, made from good ones |
 //! | `cases` | files to plan: fixed ones, and generated ones by their number |
 //! | `figures` | the cases that 01 sets down with their answers |
-//! | `library` | the planner under comparison: an archive, or the stand-in |
+//! | `library` | the entries under comparison: of an archive, or the stand-in |
 //! | `reply` | a call with guarded buffers, and what it leaves behind |
 //! | `harness` | one case put to both planners, the answers set side by side |
 //! | `tally` | what a comparison has met, and what it should have met |

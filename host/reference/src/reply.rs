@@ -2,7 +2,7 @@
 
 use crate::cases::Case;
 use crate::entry::{Block, BLOCK_BYTES};
-use crate::library::Entry;
+use crate::library::Library;
 use crate::plan::Plan;
 use crate::tour::judge;
 
@@ -16,28 +16,6 @@ pub struct Lengths {
 
 /// What a call answered: what it keeps and its number of places, if a tour.
 pub type Found = Option<(u8, usize)>;
-
-/// Calls a C entry on slices.
-pub fn call(
-    entry: Entry,
-    file: &[u8],
-    answer: &mut [u8],
-    run_in: &mut [u8],
-    cycle: &mut [u8],
-) -> u32 {
-    unsafe {
-        entry(
-            file.as_ptr(),
-            file.len(),
-            answer.as_mut_ptr(),
-            answer.len(),
-            run_in.as_mut_ptr(),
-            run_in.len(),
-            cycle.as_mut_ptr(),
-            cycle.len(),
-        )
-    }
-}
 
 /// A buffer between two margins, perhaps of no bytes, all filled with a
 /// pattern. No byte of the pattern is a place.
@@ -90,19 +68,14 @@ pub struct Reply {
 }
 
 impl Reply {
-    pub fn of(
-        salt: u8,
-        case: &Case,
-        lengths: Lengths,
-        call: impl FnOnce(&[u8], &mut [u8], &mut [u8], &mut [u8]) -> u32,
-    ) -> Reply {
+    pub fn of(salt: u8, case: &Case, lengths: Lengths, library: Library) -> Reply {
         let memory = [&case.file[..], &case.behind].concat();
         let lent = |more, length| Lent::new(salt.wrapping_add(more), length, case.margin);
         let mut answer = lent(0, lengths.answer);
         let mut run_in = lent(1, lengths.run_in);
         let mut cycle = lent(2, lengths.cycle);
         let file = &memory[..case.file.len()];
-        let returned = call(file, answer.lend(), run_in.lend(), cycle.lend());
+        let returned = (library.plan_tour)(file, answer.lend(), run_in.lend(), cycle.lend());
         let file_changed = memory != [&case.file[..], &case.behind].concat();
         Reply {
             returned,

@@ -4,7 +4,7 @@
 use reference::cases::case;
 use reference::entry::{self, Block};
 use reference::harness::check;
-use reference::library::{standin, Entry};
+use reference::library::{Library, REFERENCE};
 use reference::plan::{Automaton, Plan};
 use reference::planner::best_tour;
 use reference::reader::read;
@@ -12,28 +12,31 @@ use reference::tally::Tally;
 use reference::tour::judge;
 
 /// The number of the first of 2,000 cases in which the harness objects.
-fn found_out(entry: Entry) -> Option<u64> {
+fn found_out(library: Library) -> Option<u64> {
     let mut tally = Tally::default();
     (0..2_000)
         .filter(|number| number % 16 != 14)
         .find(|&number| {
             let (case, mut random) = case(number);
-            check(entry, &case, &mut random, &mut tally).is_err()
+            check(library, &case, &mut random, &mut tally).is_err()
         })
 }
 
 #[test]
 fn the_reference_is_not_found_out() {
-    assert_eq!(found_out(standin), None);
+    assert_eq!(found_out(REFERENCE), None);
 }
 
-/// Makes an entry of a function on slices, and a test that it is found out.
+/// Makes a test that a planner is found out.
 macro_rules! fault {
     ($name:ident, $plan_tour:expr) => {
         #[test]
         fn $name() {
-            reference::entry!(entry, $plan_tour);
-            assert!(found_out(entry).is_some());
+            let faulty = Library {
+                plan_tour: $plan_tour,
+                ..REFERENCE
+            };
+            assert!(found_out(faulty).is_some());
         }
     };
 }

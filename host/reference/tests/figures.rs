@@ -4,7 +4,7 @@ use reference::brute::all_short_tours;
 use reference::entry::{plan_tour, upcoming};
 use reference::figures::{at_the_bound, figures, soft, start_marked, x};
 use reference::harness::check_figure;
-use reference::library::standin;
+use reference::library::REFERENCE;
 use reference::plan::{Automaton, Plan};
 use reference::reader::{read, Refusal};
 use reference::rules::{again, always, go, once};
@@ -29,7 +29,7 @@ fn kept(plan: &Plan) -> u8 {
 fn cases_1_to_8_and_10_to_12() {
     for figure in figures() {
         assert_eq!(
-            check_figure(standin, &figure),
+            check_figure(REFERENCE, &figure),
             Ok(()),
             "case {}",
             figure.name

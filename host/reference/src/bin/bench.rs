@@ -13,12 +13,10 @@
 //! shape, with N near 2,048.
 
 use reference::components::components;
-use reference::entry;
-use reference::library::{ENTRY, NAME};
+use reference::library::{Library, LIBRARY, NAME, REFERENCE};
 use reference::product::Product;
 use reference::random::Random;
 use reference::reader::read;
-use reference::reply::call;
 use reference::shapes::{large, Shape, SHAPES};
 use std::time::Instant;
 
@@ -153,10 +151,8 @@ fn measure(shape: Shape, size: u64, plans: u64) -> Times {
         sizes.push(plan.size());
         let (mut reference, mut library) = (f64::INFINITY, f64::INFINITY);
         for _ in 0..REPEATS {
-            reference = reference.min(time(&text, entry::plan_tour));
-            library = library.min(time(&text, |file, answer, run_in, cycle| {
-                call(ENTRY, file, answer, run_in, cycle)
-            }));
+            reference = reference.min(time(&text, REFERENCE));
+            library = library.min(time(&text, LIBRARY));
         }
         times.reference.push(reference);
         times.library.push(library);
@@ -166,10 +162,10 @@ fn measure(shape: Shape, size: u64, plans: u64) -> Times {
     times
 }
 
-fn time(file: &[u8], plan_tour: impl FnOnce(&[u8], &mut [u8], &mut [u8], &mut [u8]) -> u32) -> f64 {
+fn time(file: &[u8], library: Library) -> f64 {
     let (mut answer, mut run_in, mut cycle) = ([0; 16], [0; 2_048], [0; 20_480]);
     let begin = Instant::now();
-    let number = plan_tour(file, &mut answer, &mut run_in, &mut cycle);
+    let number = (library.plan_tour)(file, &mut answer, &mut run_in, &mut cycle);
     let spent = begin.elapsed().as_secs_f64() * 1e6;
     assert!(number == 0 || number == 6, "refusal {number}");
     spent

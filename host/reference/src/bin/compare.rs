@@ -16,7 +16,7 @@
 use reference::cases::{case, harmed_cases, limit_cases, Case};
 use reference::figures::figures;
 use reference::harness::{check, check_figure, check_limits, check_once};
-use reference::library::{ENTRY, NAME};
+use reference::library::{LIBRARY, NAME};
 use reference::tally::Tally;
 use std::process::exit;
 use std::sync::Mutex;
@@ -53,15 +53,17 @@ fn main() {
 
     for figure in figures() {
         let name = format!("figure {} of 01", figure.name);
-        options.put(&name, &figure.file, || check_figure(ENTRY, &figure));
+        options.put(&name, &figure.file, || check_figure(LIBRARY, &figure));
     }
     for case in limit_cases() {
         let (name, case) = (format!("limits of {}", case.kind), options.lay(case));
-        options.put(&name, &case.file, || check_limits(ENTRY, &case, &mut tally));
+        options.put(&name, &case.file, || {
+            check_limits(LIBRARY, &case, &mut tally)
+        });
     }
     for case in harmed_cases() {
         let (name, case) = (format!("plan X, {}", case.kind), options.lay(case));
-        options.put(&name, &case.file, || check_once(ENTRY, &case, &mut tally));
+        options.put(&name, &case.file, || check_once(LIBRARY, &case, &mut tally));
     }
     let end = options.first.saturating_add(options.cases);
     let mut number = options.first;
@@ -69,7 +71,7 @@ fn main() {
         let (case, mut random) = case(number);
         let (name, case) = (format!("case {number}, {}", case.kind), options.lay(case));
         options.put(&name, &case.file, || {
-            check(ENTRY, &case, &mut random, &mut tally)
+            check(LIBRARY, &case, &mut random, &mut tally)
         });
         number += 1;
     }
