@@ -91,5 +91,6 @@ int main(int argc, char **argv) {
   print_upcoming(runin_length, 12);
   print_upcoming(runin_length + loop_length - 1, 12);
   print_upcoming(1000000000, 12);
+  print_upcoming(UINT64_MAX - 11, 12); /* the last steps that have a number */
   return 0;
 }

@@ -1,5 +1,5 @@
 /*
-** header_test.c - the inline functions of plantour.h, and the entry's edges
+** header_test.c - the inline functions of plantour.h, and the entries' edges
 **
 ** Ends with 0 and says nothing if all is well.
 */
@@ -22,24 +22,42 @@ static void decodes_the_block(void) {
   assert(plantour_loop_length(block) == 20480);
 }
 
-/* The part from step t of run-in 5,6 and loop 7,8,9. */
-static void upcoming_is(uint64_t t, const char *expected) {
-  static const uint8_t runin[] = {5, 6}, loop[] = {7, 8, 9};
-  size_t length;
-  const uint8_t *part = plantour_upcoming(runin, 2, loop, 3, t, &length);
-  assert(length == strlen(expected) && memcmp(part, expected, length) == 0);
+static void finds_where_upcoming_places_begin(void) {
+  const uint64_t max = UINT64_MAX;
+  assert(upcoming_offset(2, 3, 1) == 1 && upcoming_offset(2, 3, 2) == 0);
+  assert(upcoming_offset(2, 3, 6) == 1 && upcoming_offset(2, 3, max) == 1);
+  assert(upcoming_offset(0, 0, 0) == 0 && upcoming_offset(0, 0, max) == 0);
+  assert(upcoming_offset(2, 0, 1) == 1 && upcoming_offset(2, 0, 2) == 0);
+  assert(upcoming_offset(0, 1, max) == 0 && upcoming_offset(0, max, max) == 0);
+  assert(upcoming_offset(0, max, max - 1) == max - 1);
+  assert(upcoming_offset(1, max, max) == max - 1);
+  assert(upcoming_offset(max, 1, max - 1) == max - 1);
+  assert(upcoming_offset(max, 1, max) == 0 && upcoming_offset(max, 0, max) == 0);
+  assert(upcoming_offset(max, max, max) == 0);
+}
+
+static const uint8_t tour_runin[] = {5, 6}, tour_loop[] = {7, 8, 9};
+
+/* The part from step t is just so many places from 'from' on, and no copy. */
+static void upcoming_is(size_t runin_length, size_t loop_length, uint64_t t,
+                        const uint8_t *from, size_t expected) {
+  size_t length = 99;
+  const uint8_t *part = plantour_upcoming(
+      tour_runin, runin_length, tour_loop, loop_length, t, &length);
+  assert(part == from && length == expected);
 }
 
 static void serves_upcoming_places(void) {
-  upcoming_is(0, "\5\6");
-  upcoming_is(1, "\6");
-  upcoming_is(2, "\7\10\11");
-  upcoming_is(6, "\10\11");
-  upcoming_is(UINT64_MAX, "\10\11");
-  uint8_t none = 0;
-  size_t length = 1;
-  plantour_upcoming(&none, 1, &none, 0, UINT64_MAX, &length);
-  assert(length == 0);
+  upcoming_is(2, 3, 0, tour_runin, 2);
+  upcoming_is(2, 3, 1, tour_runin + 1, 1);
+  upcoming_is(2, 3, 2, tour_loop, 3);
+  upcoming_is(2, 3, 6, tour_loop + 1, 2);
+  upcoming_is(2, 3, UINT64_MAX, tour_loop + 1, 2);
+  upcoming_is(0, 3, 0, tour_loop, 3);
+  upcoming_is(2, 0, 1, tour_runin + 1, 1);
+  upcoming_is(2, 0, 2, tour_loop, 0);
+  upcoming_is(2, 0, UINT64_MAX, tour_loop, 0);
+  upcoming_is(0, 0, 0, tour_loop, 0);
 }
 
 /* One place with a road to itself: N is 1, and the loop bound 2. */
@@ -68,6 +86,7 @@ static void plans_with_the_least_buffers(void) {
 
 int main(void) {
   decodes_the_block();
+  finds_where_upcoming_places_begin();
   serves_upcoming_places();
   plans_with_the_least_buffers();
   return 0;

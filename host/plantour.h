@@ -7,7 +7,8 @@
 ** with a tour of least cost: a run-in, driven once, and a loop, driven again
 ** and again without end.  The cost is the sum of the weights of the soft
 ** rules that the tour breaks.  Of two tours of equal cost the better one keeps
-** the lowest-numbered rule on which they differ.
+** the lowest-numbered rule on which they differ.  While the tour is driven,
+** plantour_upcoming() gives the places that come next.
 **
 ** The caller lends the memory for the plan, the answer and the tour; the
 ** library holds on to none of it after the call.
@@ -49,9 +50,9 @@ extern "C" {
 #define PLANTOUR_LOOP_BYTES   20480
 
 /*
-** The stack that a call needs, in bytes: what was measured on plans of all
-** kinds, and some to spare.  A thread that calls plan_tour() should have more,
-** for itself.
+** The stack that a call of plan_tour() needs, in bytes: what was measured on
+** plans of all kinds, and some to spare.  A thread that calls it should have
+** more, for itself.
 */
 #define PLANTOUR_STACK_BYTES  819200
 
@@ -147,28 +148,40 @@ static inline int plantour_keeps(const uint8_t *answer, unsigned rule) {
 }
 
 /*
-** Upcoming places.  Step 0 is at the start, step t at the place after t roads.
-** This gives the places of step t and the steps after it, as far as they lie
-** side by side in memory: the rest of the run-in while it lasts, later the rest of the
-** present turn of the loop.  To look farther ahead ask again with t plus the
-** part's length.
+** Where the upcoming places begin.  Step 0 is at the start, step t at the place
+** after t roads.
 **
-** runin_length and loop_length are the tour's, not the buffers'.  The part's
+** runin_length        How many places the run-in has, and how many the loop:
+** loop_length         the tour's lengths, not the buffers'.
+** t                   The step.
+**
+** Returns the index of step t's place: while t is below runin_length, t itself,
+** in the run-in; later (t - runin_length) modulo loop_length, in the loop.
+** With a loop_length of 0, which no tour has, it is then 0.  Any three numbers
+** will do; none is refused.
+*/
+uint64_t upcoming_offset(uint64_t runin_length, uint64_t loop_length,
+                         uint64_t t);
+
+/*
+** Upcoming places.  This gives the places of step t and the steps after it, as
+** far as they lie side by side in memory: the rest of the run-in while it
+** lasts, later the rest of the present turn of the loop.  To look farther ahead
+** ask again with t plus the part's length.
+**
+** runin_length, loop_length and t are as for upcoming_offset().  The part's
 ** length is stored in *part_length.  The result points into runin or loop and
-** is good as long as they are; nothing is copied.  With a loop of length 0,
-** which no tour has, the part is empty once the run-in is over.
+** is good as long as they are; nothing is copied.  With a loop_length of 0 the
+** part is empty once the run-in is over.
 */
 static inline const uint8_t *plantour_upcoming(
     const uint8_t *runin, size_t runin_length,
     const uint8_t *loop, size_t loop_length,
     uint64_t t, size_t *part_length) {
-  size_t from = 0;
+  size_t from = (size_t)upcoming_offset(runin_length, loop_length, t);
   if (t < runin_length) {
-    *part_length = runin_length - (size_t)t;
-    return runin + (size_t)t;
-  }
-  if (loop_length > 0) {
-    from = (size_t)((t - runin_length) % loop_length);
+    *part_length = runin_length - from;
+    return runin + from;
   }
   *part_length = loop_length - from;
   return loop + from;

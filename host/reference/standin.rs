@@ -1,6 +1,6 @@
 //! The reference as a static library with the exported names of `plantour.h`.
 
-use reference::entry;
+use reference::{entry, upcoming};
 use std::slice::{from_raw_parts, from_raw_parts_mut};
 
 /// # Safety
@@ -25,4 +25,9 @@ pub unsafe extern "C" fn plan_tour(
             from_raw_parts_mut(cycle, cycle_len),
         )
     }
+}
+
+#[unsafe(no_mangle)]
+pub extern "C" fn upcoming_offset(runin_length: u64, loop_length: u64, t: u64) -> u64 {
+    upcoming::upcoming_offset(runin_length, loop_length, t)
 }

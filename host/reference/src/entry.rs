@@ -72,15 +72,3 @@ fn success(plan: &Plan, tour: &Tour, kept: u8) -> Block {
         ..Block::default()
     }
 }
-
-/// The upcoming places from step `t`: a part of one of the two slices.
-pub fn upcoming<'a>(run_in: &'a [u8], cycle: &'a [u8], t: u64) -> &'a [u8] {
-    let length = run_in.len() as u64;
-    if t < length {
-        &run_in[t as usize..]
-    } else if cycle.is_empty() {
-        cycle
-    } else {
-        &cycle[((t - length) % cycle.len() as u64) as usize..]
-    }
-}

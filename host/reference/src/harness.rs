@@ -10,6 +10,7 @@ use crate::plan::Plan;
 use crate::random::Random;
 use crate::reader::read;
 use crate::reply::{Found, Lengths, Reply};
+use crate::serving::follow;
 use crate::tally::Tally;
 
 /// A plan with a larger N is planned less often.
@@ -89,17 +90,20 @@ fn one_call(
     tally: &mut Tally,
 ) -> Result<Found, String> {
     let reference = Reply::of(salt, case, lengths, REFERENCE);
-    let library = Reply::of(salt, case, lengths, library);
+    let own = Reply::of(salt, case, lengths, library);
     tally.calls[reference.returned as usize] += 1;
 
     let with_lengths = |what: String| format!("{what}\nbuffers: {lengths:?}");
     reference
         .sound(plan)
         .map_err(|what| with_lengths(format!("reference: {what}")))?;
-    let found = library
+    let found = own
         .sound(plan)
         .map_err(|what| with_lengths(format!("library: {what}")))?;
-    library.agrees(&reference).map_err(with_lengths)?;
+    own.agrees(&reference).map_err(with_lengths)?;
+    if let Some((run_in, cycle)) = own.tour() {
+        follow(library, run_in, cycle, salt, tally)?;
+    }
     Ok(found)
 }
 

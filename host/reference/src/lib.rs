@@ -8,6 +8,7 @@
 //! | `components` | its strongly connected components |
 //! | `planner` | the best component, and a tour that keeps all it can |
 //! | `entry` | `plan_tour` on byte slices, with the answer block |
+//! | `upcoming` | the places from a step on, and where they begin |
 //! | `tour` | any tour judged by the definitions, without the product |
 //! | `brute` | the best of all short tours, and of some chance ones |
 //! | `random` | a small source of chance with a fixed seed |
@@ -18,6 +19,7 @@
 //! | `library` | the entries under comparison: of an archive, or the stand-in |
 //! | `reply` | a call with guarded buffers, and what it leaves behind |
 //! | `harness` | one case put to both planners, the answers set side by side |
+//! | `serving` | upcoming places, by numbers and along the tours answered |
 //! | `tally` | what a comparison has met, and what it should have met |
 
 pub mod brute;
@@ -36,6 +38,8 @@ pub mod random;
 pub mod reader;
 pub mod reply;
 pub mod rules;
+pub mod serving;
 pub mod shapes;
 pub mod tally;
 pub mod tour;
+pub mod upcoming;

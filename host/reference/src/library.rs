@@ -4,16 +4,24 @@
 //! the stand-in: the reference itself.
 
 use crate::entry;
+use crate::upcoming;
 
 /// The entries of `plantour.h`.
 #[derive(Clone, Copy)]
 pub struct Library {
-    /// Plan, answer block, run-in and loop.
-    pub plan_tour: fn(&[u8], &mut [u8], &mut [u8], &mut [u8]) -> u32,
+    pub plan_tour: PlanTour,
+    pub upcoming_offset: UpcomingOffset,
 }
+
+/// On plan, answer block, run-in and loop.
+pub type PlanTour = fn(&[u8], &mut [u8], &mut [u8], &mut [u8]) -> u32;
+
+/// On the length of the run-in, the length of the loop, and the step.
+pub type UpcomingOffset = fn(u64, u64, u64) -> u64;
 
 pub const REFERENCE: Library = Library {
     plan_tour: entry::plan_tour,
+    upcoming_offset: upcoming::upcoming_offset,
 };
 
 #[cfg(not(archive))]
@@ -24,6 +32,7 @@ pub const NAME: &str = "stand-in";
 #[cfg(archive)]
 pub const LIBRARY: Library = Library {
     plan_tour: archive::plan_tour,
+    upcoming_offset: archive::upcoming_offset,
 };
 #[cfg(archive)]
 pub const NAME: &str = env!("MOXILTRA_ARCHIVE");
@@ -42,6 +51,7 @@ mod archive {
                 cycle: *mut u8,
                 cycle_len: usize,
             ) -> u32;
+            pub fn upcoming_offset(runin_length: u64, loop_length: u64, t: u64) -> u64;
         }
     }
 
@@ -58,5 +68,9 @@ mod archive {
                 cycle.len(),
             )
         }
+    }
+
+    pub fn upcoming_offset(runin_length: u64, loop_length: u64, t: u64) -> u64 {
+        unsafe { c::upcoming_offset(runin_length, loop_length, t) }
     }
 }

@@ -169,6 +169,15 @@ impl Reply {
         Ok(Some((block.kept, run_in + cycle)))
     }
 
+    /// Run-in and loop of a tour, once it is known to be sound.
+    pub fn tour(&self) -> Option<(&[u8], &[u8])> {
+        let block = self.block().filter(|block| block.number == 0)?;
+        Some((
+            &self.run_in.content()[..block.run_in as usize],
+            &self.cycle.content()[..block.cycle as usize],
+        ))
+    }
+
     /// The block without the tour's lengths, which are free.
     pub fn fixed(&self) -> Option<Block> {
         self.block().map(|block| Block {

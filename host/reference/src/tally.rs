@@ -18,6 +18,10 @@ pub struct Tally {
     pub choices: usize,
     /// Plans near the bound, by their kind.
     pub near: BTreeMap<String, usize>,
+    /// Offsets of upcoming places that were looked at; tours followed step by
+    /// step, those with a run-in and those without.
+    pub offsets: usize,
+    pub followed: [usize; 2],
     pub tours_judged: usize,
     /// Plans all of whose short tours were tried; those among them whose best
     /// tour was short enough to be met; those whose best tours, equal in cost,
@@ -61,6 +65,8 @@ impl Tally {
             ("a rule with a choice".into(), self.choices),
             ("a tie".into(), self.tied),
             ("a plan settled by its short tours".into(), self.settled),
+            ("a tour with a run-in".into(), self.followed[0]),
+            ("a tour without a run-in".into(), self.followed[1]),
         ];
         let all = numbers.chain(shapes).chain(others);
         all.filter(|(_, count)| *count == 0)
@@ -88,6 +94,11 @@ impl fmt::Display for Tally {
             .map(|(kind, count)| format!("{kind} {count}"))
             .collect();
         writeln!(f, "plans with N from {NEAR} on: {}", near.join(", "))?;
+        writeln!(
+            f,
+            "offsets of upcoming places: {}; tours followed: {} with a run-in, {} without",
+            self.offsets, self.followed[0], self.followed[1]
+        )?;
         write!(
             f,
             "tours judged: {}; plans all of whose short tours were tried: {}, \

@@ -1,4 +1,4 @@
-//! The comparison has teeth: planners with one fault each are found out within
+//! The comparison has teeth: libraries with one fault each are found out within
 //! a few hundred cases, and the reference itself is not.
 
 use reference::cases::case;
@@ -8,8 +8,10 @@ use reference::library::{Library, REFERENCE};
 use reference::plan::{Automaton, Plan};
 use reference::planner::best_tour;
 use reference::reader::read;
+use reference::serving::check_offsets;
 use reference::tally::Tally;
 use reference::tour::judge;
+use reference::upcoming::upcoming_offset;
 
 /// The number of the first of 2,000 cases in which the harness objects.
 fn found_out(library: Library) -> Option<u64> {
@@ -25,6 +27,7 @@ fn found_out(library: Library) -> Option<u64> {
 #[test]
 fn the_reference_is_not_found_out() {
     assert_eq!(found_out(REFERENCE), None);
+    assert_eq!(check_offsets(REFERENCE, &mut Tally::default()), Ok(()));
 }
 
 /// Makes a test that a planner is found out.
@@ -210,3 +213,50 @@ fault!(forgets_the_soft_rules, |file, answer, run_in, cycle| {
         ..plan.clone()
     })
 });
+
+/// Makes a test that a server of upcoming places is found out, both by numbers
+/// alone and along the tours of the cases.
+macro_rules! offset_fault {
+    ($name:ident, $upcoming_offset:expr) => {
+        #[test]
+        fn $name() {
+            let faulty = Library {
+                upcoming_offset: $upcoming_offset,
+                ..REFERENCE
+            };
+            assert!(check_offsets(faulty, &mut Tally::default()).is_err());
+            assert!(found_out(faulty).is_some());
+        }
+    };
+}
+
+offset_fault!(is_right_at_step_0_only, |_, _, _| 0);
+
+offset_fault!(forgets_the_remainder, |run_in, _, t| {
+    t.checked_sub(run_in).unwrap_or(t)
+});
+
+offset_fault!(counts_turns_from_step_0, |run_in, cycle, t| {
+    upcoming_offset(if t < run_in { run_in } else { 0 }, cycle, t)
+});
+
+offset_fault!(enters_the_loop_a_step_late, |run_in, cycle, t| {
+    upcoming_offset(run_in.saturating_add(1), cycle, t)
+});
+
+offset_fault!(loses_steps_above_32_bits, |run_in, cycle, t| {
+    upcoming_offset(run_in, cycle, t as u32 as u64)
+});
+
+/// No tour has an empty loop, so only the numbers tell.
+#[test]
+fn goes_on_counting_in_an_empty_loop() {
+    let faulty = Library {
+        upcoming_offset: |run_in, cycle, t| match cycle {
+            0 => t,
+            _ => upcoming_offset(run_in, cycle, t),
+        },
+        ..REFERENCE
+    };
+    assert!(check_offsets(faulty, &mut Tally::default()).is_err());
+}

@@ -1,7 +1,7 @@
 //! The figures of 01 and the readings it shuts out, put to the reference.
 
 use reference::brute::all_short_tours;
-use reference::entry::{plan_tour, upcoming};
+use reference::entry::plan_tour;
 use reference::figures::{at_the_bound, figures, soft, start_marked, x};
 use reference::harness::check_figure;
 use reference::library::REFERENCE;
@@ -42,17 +42,6 @@ fn sizes_of_cases_1_and_11() {
     assert_eq!(x().size(), 18);
     assert_eq!(at_the_bound(false).size(), 2_048);
     assert_eq!(at_the_bound(true).size(), 4_096);
-}
-
-#[test]
-fn case_9_upcoming_places() {
-    let part = |t| upcoming(&[5, 6], &[7, 8, 9], t);
-    assert_eq!(part(1), [6]);
-    assert_eq!(part(2), [7, 8, 9]);
-    assert_eq!(part(6), [8, 9]);
-    assert_eq!(part(u64::MAX), [8, 9]);
-    assert_eq!(upcoming(&[5, 6], &[], 2), []);
-    assert_eq!(upcoming(&[], &[], u64::MAX), []);
 }
 
 #[test]

@@ -2,7 +2,8 @@
 //!
 //!     compare [--seconds S] [--first CASE] [--cases COUNT] [--bare] [--trace]
 //!
-//! First come the figures of 01, files with buffers of every length about the
+//! First come the figures of 01, where upcoming places begin for some hundred
+//! thousand lengths and steps, files with buffers of every length about the
 //! limits, and one plan harmed in every way of some kinds; then cases in the
 //! order of their numbers, from CASE (0 if not given) on, until S seconds (20)
 //! have passed or COUNT cases are done. A case is the same on every run. With
@@ -17,6 +18,7 @@ use reference::cases::{case, harmed_cases, limit_cases, Case};
 use reference::figures::figures;
 use reference::harness::{check, check_figure, check_limits, check_once};
 use reference::library::{LIBRARY, NAME};
+use reference::serving::{check_case_9, check_offsets};
 use reference::tally::Tally;
 use std::process::exit;
 use std::sync::Mutex;
@@ -51,26 +53,32 @@ fn main() {
     let mut tally = Tally::default();
     let begin = Instant::now();
 
+    options.put("figure 9 of 01", None, || check_case_9(LIBRARY));
+    options.put("upcoming places", None, || {
+        check_offsets(LIBRARY, &mut tally)
+    });
     for figure in figures() {
         let name = format!("figure {} of 01", figure.name);
-        options.put(&name, &figure.file, || check_figure(LIBRARY, &figure));
+        options.put(&name, Some(&figure.file), || check_figure(LIBRARY, &figure));
     }
     for case in limit_cases() {
         let (name, case) = (format!("limits of {}", case.kind), options.lay(case));
-        options.put(&name, &case.file, || {
+        options.put(&name, Some(&case.file), || {
             check_limits(LIBRARY, &case, &mut tally)
         });
     }
     for case in harmed_cases() {
         let (name, case) = (format!("plan X, {}", case.kind), options.lay(case));
-        options.put(&name, &case.file, || check_once(LIBRARY, &case, &mut tally));
+        options.put(&name, Some(&case.file), || {
+            check_once(LIBRARY, &case, &mut tally)
+        });
     }
     let end = options.first.saturating_add(options.cases);
     let mut number = options.first;
     while number < end && begin.elapsed() < Duration::from_secs(options.seconds) {
         let (case, mut random) = case(number);
         let (name, case) = (format!("case {number}, {}", case.kind), options.lay(case));
-        options.put(&name, &case.file, || {
+        options.put(&name, Some(&case.file), || {
             check(LIBRARY, &case, &mut random, &mut tally)
         });
         number += 1;
@@ -100,15 +108,17 @@ impl Options {
     }
 
     /// Ends the program at a difference.
-    fn put(&self, name: &str, file: &[u8], check: impl FnOnce() -> Result<(), String>) {
+    fn put(&self, name: &str, file: Option<&[u8]>, check: impl FnOnce() -> Result<(), String>) {
         *AT_WORK.lock().unwrap() = name.into();
         if self.trace {
             eprintln!("{name}");
         }
         if let Err(what) = check() {
             println!("compare: {NAME}: difference at {name}\n{what}");
-            let text = file.escape_ascii().to_string().replace("\\n", "\n");
-            println!("plan, {} bytes:\n{text}", file.len());
+            if let Some(file) = file {
+                let text = file.escape_ascii().to_string().replace("\\n", "\n");
+                println!("plan, {} bytes:\n{text}", file.len());
+            }
             exit(1)
         }
     }
