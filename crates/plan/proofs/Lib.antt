@@ -5,3 +5,4 @@ pub mod Keys
 pub mod Tours
 pub mod Charging
 pub mod Counts
+pub mod Rooms

@@ -5,6 +5,7 @@ ghost use Prim.Native.Nat.{_≤_, _<_};
 ghost use Rattle.automata.specs.Bits.{bit};
 ghost use Rattle.plan.specs.Cost.{keeps, costOf};
 ghost use Rattle.plan.specs.Key.{tie, keyOf};
+ghost use Rattle.plan.specs.Refusal.{number, lineOf};
 use automata::Automaton;
 
 // A plan by value. Place v, for v below `places`, has the label labels[v]; road i, for i below `roads`, goes from place
@@ -32,6 +33,36 @@ pub enum Refusal {
     BufferTooShort,
     NoTour,
     BlockTooShort,
+}
+
+// The number of a refusal.
+pub fn refusal_number(refusal: Refusal) -> u32
+    ensures { λ r. ⌜ r ≡ number refusal ⌝ }
+{
+    match refusal {
+        Refusal::PlanTooLong => 1,
+        Refusal::Form(_) => 2,
+        Refusal::Range(_) => 3,
+        Refusal::ProductTooLarge => 4,
+        Refusal::BufferTooShort => 5,
+        Refusal::NoTour => 6,
+        Refusal::BlockTooShort => 7,
+    }
+}
+
+// The line that comes with it, 0 where there is none.
+pub fn refusal_line(refusal: Refusal) -> u32
+    ensures { λ r. ⌜ r ≡ lineOf refusal ⌝ }
+{
+    match refusal {
+        Refusal::PlanTooLong => 0,
+        Refusal::Form(line) => line,
+        Refusal::Range(line) => line,
+        Refusal::ProductTooLarge => 0,
+        Refusal::BufferTooShort => 0,
+        Refusal::NoTour => 0,
+        Refusal::BlockTooShort => 0,
+    }
 }
 
 // A number as a wider one.

@@ -4,3 +4,4 @@ pub mod Made
 pub mod Steps
 pub mod Verdicts
 pub mod Unique
+pub mod Bounds

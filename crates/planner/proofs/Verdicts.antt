@@ -1,28 +1,25 @@
--- The verdict as the code comes to it, and the promise from an answer that is told and written.
+-- The verdict as the code comes to it.
 --   short-runin, short-loop    == a buffer is too short
 --   roomy-planned              == both have room: what planning comes to is what is told
 --   refused-told, read-told    == a plan file that is turned away, and one that is read
 --   told-fits                  == the lengths that are told lie within the buffers
---   block-short, block-told    == the answer block is too short, or the answer stands in it
 use mathlib.Core.Path.{_≡_, refl, sym, ap, _∙_, subst}
 use mathlib.Core.Bool.{Bool, true, false, _&&_}
 use mathlib.Core.List.{List, _++_}
 use Prim.Native.Nat.{ℕ, _+_, _*_, _≤_, _<_}
 use native.Mathlib.Omega.{arith}
-use borrow.Author.Tests.{lt-leb, le-leb, lt-ltb, le-ltb}
+use borrow.Author.Tests.{lt-leb, le-leb}
 use lib.ListN.{length, drop, length-append}
 use lib.Dec.{leb}
 use Rattle.plan.specs.Size.{size, loopRoom, roomy}
-use Rattle.plan.specs.Refusal.{number}
 use Rattle.plan.specs.declared.Plan.{Plan}
 use Rattle.plan.specs.declared.Refusal.{Refusal}
 use Rattle.plan.specs.declared.Refusal.the-variants as refusal
 use Rattle.reader.specs.Reading.{readPlan}
 use Rattle.reader.specs.declared.Reading.{Reading}
 use Rattle.reader.specs.declared.Outcome.the-variants as outcome
-use Rattle.answer.specs.Block.{blockOf}
 use Rattle.answer.specs.declared.Answer.{Answer}
-use Rattle.planner.specs.Promise.{Verdict, verdict, refuse, go, refusalAnswer, Planned, none, tour, Refused, Told, Buffers, buffers, Promise}
+use Rattle.planner.specs.Promise.{Verdict, verdict, refuse, go, refusalAnswer, Planned, none, tour, Refused, Told}
 
 and-no : (b : Bool) → (b && false) ≡ false
 and-no true = refl
@@ -68,16 +65,6 @@ module _ (plan : List ℕ) (r : Reading) (same : r ≡ readPlan plan) where
   refused-told runin loop a x e t =
       subst (λ y. Told (verdict (y .outcome) (y .plan) (length runin) (length loop)) runin loop runin loop a) same
       (subst (λ o. Told (verdict o (r .plan) (length runin) (length loop)) runin loop runin loop a) (sym e) (record { answer = t; same-runin = refl; same-loop = refl }))
-
-pub block-short : (plan : List ℕ) (b : Buffers) → length (b .block) < 16 → Promise plan b b 7
-unfolding Promise number
-block-short plan b h = rw (lt-ltb (length (b .block)) 16 h) (record { answer = refl; untouched = refl })
-
-pub block-told : (plan block runin loop block′ runin′ loop′ : List ℕ) (a : Answer) → 16 ≤ length block
-    → Told (verdict (readPlan plan .outcome) (readPlan plan .plan) (length runin) (length loop)) runin loop runin′ loop′ a
-    → block′ ≡ blockOf a ++ drop 16 block → Promise plan (buffers block runin loop) (buffers block′ runin′ loop′) (a .number)
-unfolding Promise
-block-told plan block runin loop block′ runin′ loop′ a h t w = rw (le-ltb (length block) 16 h) (record { answer = a; told = t; block = w; returned = refl })
 
 -- the lengths of an answer lie within the buffers
 pub told-fits : (v : Verdict) (runin loop runin′ loop′ : List ℕ) (a : Answer) → Told v runin loop runin′ loop′ a

@@ -1,4 +1,4 @@
--- What the planner promises: 01, "Why a plan is turned away" and "For the host and for the rig", with demands 1 to 3.
+-- What the planner promises of its answer: 01, "Why a plan is turned away", with demands 1 to 3.
 --   Verdict              == a refusal that needs no planning, or the plan to be planned
 --   verdict o p r l      == of what a plan file reads as, and buffers of r and l bytes: its refusal 1 to 4, then 5; else the plan
 --   refusalAnswer x      == the answer to a refusal: its number and line, and 0 in all else
@@ -10,15 +10,11 @@
 --   Planned p runin loop runin′ loop′ a == there is no tour, and no byte has changed; or there is one
 --   Refused x runin loop runin′ loop′ a == refusal x is answered, and no byte has changed
 --   Told v runin loop runin′ loop′ a    == one of the two, as the verdict says
---   Buffers, buffers     == the bytes of answer block, run-in and loop
---   Promise plan b b′ r  == what a call on a plan file and buffers b returns, r, and leaves in the buffers, b′: refusal 7
---                           and nothing touched where the block is too short; else the answer, told and written
 use mathlib.Core.Path.{_≡_}
 use mathlib.Core.Bool.{Bool, true, false}
 use mathlib.Core.List.{List, _++_}
 use Prim.Native.Nat.{ℕ, _≤_}
 use lib.Count.{ones}
-use lib.Dec.{ltb}
 use lib.ListN.{length, drop}
 use Rattle.plan.specs.Refusal.{number, lineOf}
 use Rattle.plan.specs.Size.{size, loopRoom, roomy}
@@ -27,10 +23,8 @@ use Rattle.plan.specs.Cost.{KeptIs, cost, Best, Counted}
 use Rattle.plan.specs.declared.Plan.{Plan}
 use Rattle.plan.specs.declared.Refusal.{Refusal}
 use Rattle.plan.specs.declared.Refusal.the-variants as refusal
-use Rattle.reader.specs.Reading.{readPlan}
 use Rattle.reader.specs.declared.Outcome.{Outcome}
 use Rattle.reader.specs.declared.Outcome.the-variants as outcome
-use Rattle.answer.specs.Block.{blockOf}
 use Rattle.answer.specs.declared.Answer.{Answer}
 
 pub data Verdict : Type 0 where
@@ -81,28 +75,3 @@ pub record Refused (x : Refusal) (runin loop runin′ loop′ : List ℕ) (a : A
 unfoldable pub Told : Verdict → List ℕ → List ℕ → List ℕ → List ℕ → Answer → Type 0
 Told (refuse x) runin loop runin′ loop′ a = Refused x runin loop runin′ loop′ a
 Told (go p) runin loop runin′ loop′ a = Planned p runin loop runin′ loop′ a
-
-pub record Buffers : Type 0 where
-  pub block : List ℕ
-  pub runin : List ℕ
-  pub loop : List ℕ
-
-abbrev pub buffers : List ℕ → List ℕ → List ℕ → Buffers
-buffers block runin loop = record { block = block; runin = runin; loop = loop }
-
-pub record TooShort (b b′ : Buffers) (r : ℕ) : Type 0 where
-  pub answer : r ≡ number refusal.BlockTooShort
-  pub untouched : b′ ≡ b
-
-pub record Answered (plan : List ℕ) (b b′ : Buffers) (r : ℕ) : Type 0 where
-  pub answer : Answer
-  pub told : Told (verdict (readPlan plan .outcome) (readPlan plan .plan) (length (b .runin)) (length (b .loop))) (b .runin) (b .loop) (b′ .runin) (b′ .loop) answer
-  pub block : b′ .block ≡ blockOf answer ++ drop 16 (b .block)
-  pub returned : r ≡ answer .number
-
-abbrev pub byBlock : Bool → List ℕ → Buffers → Buffers → ℕ → Type 0
-byBlock true plan b b′ r = TooShort b b′ r
-byBlock false plan b b′ r = Answered plan b b′ r
-
-unfoldable pub Promise : List ℕ → Buffers → Buffers → ℕ → Type 0
-Promise plan b b′ r = byBlock (ltb (length (b .block)) 16) plan b b′ r

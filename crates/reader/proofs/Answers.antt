@@ -1,11 +1,13 @@
 -- What the parts of a plan file come to: the draft of its lines, and the answer, case by case. The size is judged on the product
 -- held at 2,049, which is above 2,048 exactly where the product is.
 use mathlib.Core.Path.{_≡_, refl}
+use mathlib.Core.Bool.{Bool, true, false}
 use mathlib.Core.List.{List}
 use Prim.Native.Nat.{ℕ, _+_, _^_, _≤_, _<_, min}
 use native.Mathlib.Omega.{arith}
 use lib.ListN.{length}
-use borrow.Author.Tests.{lt-ltb, le-ltb}
+use lib.Dec.{ltb}
+use borrow.Author.Tests.{lt-ltb, le-ltb, ltb-false}
 use Rattle.plan.specs.Size.{size}
 use Rattle.plan.specs.Refusal as refusal
 use Rattle.plan.specs.declared.Plan.{Plan}
@@ -14,8 +16,8 @@ use Rattle.reader.specs.Keys.{rulesKey}
 use Rattle.reader.specs.Line.{lineOfOne, firstOf, finish}
 use Rattle.reader.specs.Blocks.{hardBlock, softBlocks}
 use Rattle.reader.specs.Map.{mapOf}
-use Rattle.reader.specs.Outcome.{faultNumber, faultLine}
-use Rattle.reader.specs.Reading.{draftOf, refusalOf, refuse, admit, answer, readPlan}
+use Rattle.reader.specs.Outcome.{number, lineOf, faultNumber, faultLine}
+use Rattle.reader.specs.Reading.{draftOf, refusalOf, refuse, choose, admit, answer, readPlan}
 use Rattle.reader.specs.declared.line.Numbers.{Numbers}
 use Rattle.reader.specs.declared.line.Cursor.{Cursor}
 use Rattle.reader.specs.declared.line.Fault.{Fault}
@@ -92,3 +94,34 @@ module _ (s : List ℕ) where
         let m : faultAt (d .line) ≤ length s + 1 = rw e (draft-early s) in
         let z : faultLine f ≤ length s + 1 = rw k at m in
         omega arith
+
+-- what is answered of a plan file: no number above 4, and no line beyond the one that may follow 60,000 line ends
+module _ (s : List ℕ) where
+  admitted : (p : Plan) → (number (admit p .outcome) ≤ 4) × (lineOf (admit p .outcome) ≡ 0)
+  unfolding admit number lineOf refusal.number refusal.lineOf
+  admitted p = by (ltb 2048 (size p))
+    where
+      by : (b : Bool) → (number (choose b (refuse ProductTooLarge) (record { outcome = outcome.Plan; plan = p }) .outcome) ≤ 4)
+          × (lineOf (choose b (refuse ProductTooLarge) (record { outcome = outcome.Plan; plan = p }) .outcome) ≡ 0)
+      by true = (omega arith, refl)
+      by false = (omega arith, refl)
+
+  fault-low : (f : Fault) → faultNumber f ≤ 4
+  unfolding faultNumber
+  fault-low (Form n) = omega arith
+  fault-low (Range n) = omega arith
+
+  answered : (l : Line) (p : Plan) → faultAt l ≤ 60001 → (number (answer l p .outcome) ≤ 4) × (lineOf (answer l p .outcome) ≤ 60001)
+  unfolding answer number lineOf
+  answered (line.Fault f) p h = (rw (same-number f) (fault-low f), rw (same-line f) h)
+  answered (line.Numbers xs c) p h = (admitted p .0, omega (arith, admitted p .1))
+
+  pub read-low : (number (readPlan s .outcome) ≤ 4) × (lineOf (readPlan s .outcome) ≤ 60001)
+  unfolding readPlan number lineOf refusal.number refusal.lineOf
+  read-low = by (ltb 60000 (length s)) refl
+    where
+      by : (b : Bool) → ltb 60000 (length s) ≡ b
+          → (number (choose b (refuse PlanTooLong) (answer (draftOf s .line) (draftOf s .plan)) .outcome) ≤ 4)
+          × (lineOf (choose b (refuse PlanTooLong) (answer (draftOf s .line) (draftOf s .plan)) .outcome) ≤ 60001)
+      by true e = (omega arith, omega arith)
+      by false e = answered (draftOf s .line) (draftOf s .plan) (omega (arith, draft-early s, ltb-false 60000 (length s) e))

@@ -17,6 +17,8 @@ use line::line_of_one;
 use map::read_map;
 use plan::Plan;
 use plan::Refusal;
+use plan::refusal_line;
+use plan::refusal_number;
 use size::held_size;
 ghost use mathlib.Core.Path.{_≡_};
 ghost use Prim.Native.Nat.{_≤_};
@@ -147,17 +149,9 @@ pub fn read_plan(s: &[u8]) -> Reading
 pub fn outcome_number(outcome: Outcome) -> u32
     ensures { λ r. ⌜ r ≡ number outcome ⌝ }
 {
-    let Outcome::Refused(refusal) = outcome else {
-        return 0;
-    };
-    match refusal {
-        Refusal::PlanTooLong => 1,
-        Refusal::Form(_) => 2,
-        Refusal::Range(_) => 3,
-        Refusal::ProductTooLarge => 4,
-        Refusal::BufferTooShort => 5,
-        Refusal::NoTour => 6,
-        Refusal::BlockTooShort => 7,
+    match outcome {
+        Outcome::Plan => 0,
+        Outcome::Refused(refusal) => refusal_number(refusal),
     }
 }
 
@@ -165,16 +159,8 @@ pub fn outcome_number(outcome: Outcome) -> u32
 pub fn outcome_line(outcome: Outcome) -> u32
     ensures { λ r. ⌜ r ≡ lineOf outcome ⌝ }
 {
-    let Outcome::Refused(refusal) = outcome else {
-        return 0;
-    };
-    match refusal {
-        Refusal::PlanTooLong => 0,
-        Refusal::Form(line) => line,
-        Refusal::Range(line) => line,
-        Refusal::ProductTooLarge => 0,
-        Refusal::BufferTooShort => 0,
-        Refusal::NoTour => 0,
-        Refusal::BlockTooShort => 0,
+    match outcome {
+        Outcome::Plan => 0,
+        Outcome::Refused(refusal) => refusal_line(refusal),
     }
 }

@@ -1,11 +1,14 @@
 -- `plan_tour` keeps its promise: a block that is too short is left alone, and else the answer stands in it.
-use Rattle.planner.proofs.Verdicts.{block-short, block-told}
+use Rattle.moxiltra.proofs.Blocks.{block-short, block-told}
 use borrow.Author.Needs.{needs}
-use Rattle.planner.proofs.plan_tour.Statement.{statement}
-use Rattle.planner.proofs.plan_tour.Tie as tie
+use Rattle.moxiltra.proofs.plan_tour.Statement.{statement}
+use Rattle.moxiltra.proofs.plan_tour.Tie as tie
+
+refusal-number-requires : tie.Need-refusal-number-requires
+refusal-number-requires c κs = search needs
 
 returns : tie.Need-returns
-returns c = let s = c .before .before .before .before .before in block-short _ _ (c .if1 .taken)
+returns c = block-short _ _ (c .before .if1 .taken) _ (c .refusal-number .ensures)
 
 file-answer-requires : tie.Need-file-answer-requires
 file-answer-requires c κs = search needs
@@ -23,12 +26,14 @@ same-length-3 : tie.Need-same-length-3
 same-length-3 c = search needs
 
 returns-2 : tie.Need-returns-2
-returns-2 c = block-told _ _ _ _ _ _ _ _ (c .before .before .before .before .before .before .before .before .before .before .before .if1 .left) (c .before .before .before .before .before .before .before .before .file-answer .ensures) (c .before .before .put-block .ensures)
+returns-2 c =
+    block-told _ _ _ _ _ _ _ _ (c .before .before .before .before .before .before .before .before .before .before .before .if1 .left) (c .before .before .before .before .before .before .before .before .file-answer .ensures) (c .before .before .put-block .ensures)
 
 pub plan-tour-spec : {M : Type 1} → statement M
 plan-tour-spec =
     tie.close
     (tie.spec
+    refusal-number-requires
     returns
     file-answer-requires
     put-block-requires

@@ -1,0 +1,2 @@
+-- The promises of the entries, from what the parts ensure.
+pub mod Blocks

@@ -1,0 +1,35 @@
+//! What a host calls: the entries of the library, on numbers and byte slices.
+use answer::put_block;
+use plan::Refusal;
+use plan::refusal_number;
+use planner::file_answer;
+ghost use Rattle.serve.specs.Upcoming.{Offset};
+ghost use Rattle.moxiltra.specs.Entries.{buffers, Promise};
+
+// Plans a tour. Returns 0 or the number of the refusal, and fills the first 16 bytes of the answer block. A tour is written
+// over the front of run-in and loop buffer; on a refusal no byte of them changes.
+#[no_mangle]
+pub extern "C" fn plan_tour(
+    plan: &[u8],
+    block: &mut [u8],
+    runin: &mut [u8],
+    cycle: &mut [u8],
+) -> u32
+    ensures { λ r. ⌜ Promise (now (plan .entry)) (buffers (now (block .entry)) (now (runin .entry)) (now (cycle .entry))) (buffers (now (block .exit)) (now (runin .exit)) (now (cycle .exit))) r ⌝ }
+{
+    if block.len() < 16 {
+        return refusal_number(Refusal::BlockTooShort);
+    }
+    let a = file_answer(plan, runin, cycle);
+    put_block(a, block);
+    a.number
+}
+
+// The index at which the places to come from step t on begin: in the run-in if t is below its length, else in the loop; 0
+// where the loop is empty.
+#[no_mangle]
+pub extern "C" fn upcoming_offset(runin: u64, cycle: u64, t: u64) -> u64
+    ensures { λ r. ⌜ Offset runin cycle t r ⌝ }
+{
+    serve::offset(runin, cycle, t)
+}

@@ -1,0 +1,92 @@
+-- How large the numbers of a told answer are.
+--   told-narrow == each has room in its bytes of the answer block
+--   never-short == with buffers of 2,048 and 20,480 bytes refusal 5 is never given
+use mathlib.Core.Path.{_≡_, refl, sym, ap, _∙_, subst}
+use mathlib.Core.Bool.{Bool, true, false}
+use mathlib.Core.List.{List}
+use mathlib.Core.Logic.{_≢_}
+use Prim.Native.Nat.{ℕ, _≤_, _<_}
+use native.Mathlib.Omega.{arith}
+use lib.ListN.{length}
+use lib.Pow.{pow-mono}
+use Rattle.plan.specs.WellFormed.{WellFormed}
+use Rattle.plan.specs.Size.{size, loopRoom, roomy}
+use Rattle.plan.specs.Cost.{Counted, none as no-more, one, skip}
+use Rattle.plan.specs.Refusal as refused
+use Rattle.plan.specs.declared.Plan.{Plan}
+use Rattle.plan.specs.declared.Refusal.{Refusal}
+use Rattle.plan.specs.declared.Refusal.the-variants as refusal
+use Rattle.plan.proofs.Rooms.{loop-small, roomy-enough}
+use Rattle.reader.specs.Outcome.{number, lineOf}
+use Rattle.reader.specs.Reading.{readPlan}
+use Rattle.reader.specs.declared.Outcome.{Outcome}
+use Rattle.reader.specs.declared.Outcome.the-variants as outcome
+use Rattle.reader.proofs.Answers.{read-low}
+use Rattle.reader.proofs.WellRead.{read-ok}
+use Rattle.answer.specs.Block.{Narrow}
+use Rattle.answer.specs.declared.Answer.{Answer}
+use Rattle.planner.specs.Promise.{Verdict, verdict, choose, refuse, go, refusalAnswer, TourOf, Planned, none, tour, Told}
+use Rattle.planner.proofs.Steps.{cost-small}
+
+counted-le : {P : ℕ → Type 0} {n c : ℕ} → Counted P n c → c ≤ n
+counted-le no-more = omega arith
+counted-le (one e k) = omega (arith, counted-le k)
+counted-le (skip e k) = omega (arith, counted-le k)
+
+refusal-narrow : (x : Refusal) (a : Answer) → a ≡ refusalAnswer x → refused.number x ≤ 7 → refused.lineOf x ≤ 60001 → Narrow a
+refusal-narrow x a e h l = rw e (record { number = omega arith; line = omega arith; cost = omega arith; kept = omega arith; count = omega arith; stem = omega arith; cycle = omega arith })
+
+module _ (p : Plan) {runin loop runin′ loop′ : List ℕ} {a : Answer} where
+  tour-narrow : WellFormed p → size p ≤ 2048 → TourOf p runin loop runin′ loop′ a → Narrow a
+  tour-narrow ok small t = rw (t .answer) (record {
+    number = omega arith;
+    line = omega arith;
+    cost = omega (arith, cost-small p ok (t .kept));
+    kept = omega (arith, t .exact .small, pow-mono (ok .rules));
+    count = omega (arith, counted-le (t .counted), ok .rules);
+    stem = omega (arith, t .stem-short);
+    cycle = omega (arith, t .cycle-short, loop-small p ok small);
+  })
+
+  planned-narrow : WellFormed p → size p ≤ 2048 → Planned p runin loop runin′ loop′ a → Narrow a
+  unfolding refused.number refused.lineOf
+  planned-narrow ok small (none n e r l) = refusal-narrow refusal.NoTour a e (omega arith) (omega arith)
+  planned-narrow ok small (tour t) = tour-narrow ok small t
+
+  planned-number : Planned p runin loop runin′ loop′ a → a .number ≢ 5
+  unfolding refused.number
+  planned-number (none n e r l) f = omega (arith, ap (λ x. x .number) e)
+  planned-number (tour t) f = omega (arith, ap (λ x. x .number) (t .answer))
+
+-- a plan file that was turned away, and one that was read, in the verdict's terms
+module _ (runin loop runin′ loop′ : List ℕ) (a : Answer) (r l : ℕ) where
+  Says : Outcome → Plan → Type 0
+  Says o p = Told (verdict o p r l) runin loop runin′ loop′ a
+
+  verdict-narrow : (o : Outcome) (p : Plan) → number o ≤ 4 → lineOf o ≤ 60001 → (o ≡ outcome.Plan → WellFormed p × (size p ≤ 2048)) → Says o p → Narrow a
+  unfolding Says verdict Told number lineOf refused.number refused.lineOf
+  verdict-narrow (outcome.Refused x) p low early ok t = refusal-narrow x a (t .answer) (omega arith) early
+  verdict-narrow outcome.Plan p low early ok t = by (roomy p r l) t
+    where
+      by : (b : Bool) → Told (choose b (go p) (refuse refusal.BufferTooShort)) runin loop runin′ loop′ a → Narrow a
+      by true t = planned-narrow p (ok refl .0) (ok refl .1) t
+      by false t = refusal-narrow refusal.BufferTooShort a (t .answer) (omega arith) (omega arith)
+
+  verdict-number : (o : Outcome) (p : Plan) → number o ≤ 4 → (o ≡ outcome.Plan → roomy p r l ≡ true) → Says o p → a .number ≢ 5
+  unfolding Says verdict Told number
+  verdict-number (outcome.Refused x) p low room t f = omega (arith, ap (λ y. y .number) (t .answer))
+  verdict-number outcome.Plan p low room t f = planned-number p (rw (room refl) at t) f
+
+module _ (plan runin loop runin′ loop′ : List ℕ) (a : Answer)
+    (t : Told (verdict (readPlan plan .outcome) (readPlan plan .plan) (length runin) (length loop)) runin loop runin′ loop′ a) where
+  pub told-narrow : Narrow a
+  unfolding Says
+  told-narrow =
+      verdict-narrow runin loop runin′ loop′ a (length runin) (length loop) (readPlan plan .outcome) (readPlan plan .plan)
+      (read-low plan .0) (read-low plan .1) (read-ok plan (readPlan plan) refl) t
+
+  pub never-short : length runin ≡ 2048 → length loop ≡ 20480 → a .number ≢ 5
+  unfolding Says
+  never-short r l =
+      verdict-number runin loop runin′ loop′ a (length runin) (length loop) (readPlan plan .outcome) (readPlan plan .plan) (read-low plan .0)
+      (λ e. let ok = read-ok plan (readPlan plan) refl e in rw (r, l) (roomy-enough (readPlan plan .plan) (ok .0) (ok .1))) t
