@@ -1,38 +1,54 @@
 -- One lemma over the list of figures: a figure that passes its test holds.
-use mathlib.Core.Path.{_≡_, refl, ap, ap₂}
-use mathlib.Core.Bool.{Bool, true, false, _&&_}
-use mathlib.Core.List.{List, [], _∷_, map}
-use Prim.Native.Nat.{ℕ, zero, suc, _^_, _<_}
+--   passes-holds == that of one figure
+--   all-pass     == all figures pass: the plan files are read and the parts and routes tested, by computing
+--   figures-hold == all figures hold
+use mathlib.Core.Path.{_≡_, refl, ap₂, subst}
+use mathlib.Core.Bool.{Bool, true, false, not, _&&_}
+use mathlib.Core.List.{List, [], _∷_}
+use mathlib.Core.Logic.{_⊎_, inl, inr}
+use Prim.Native.Nat.{ℕ, zero, suc, _^_, _≤_, _<_}
 use native.Mathlib.Omega.{arith}
-use borrow.Author.Tests.{eqb-true, ltb-true}
+use native.Mathlib.Nat.{le-trans}
+use borrow.Author.Tests.{eqb-true, ne-eqb, ltb-true, leb-true}
 use lib.Count.{ones, onesIn}
 use lib.ListN.{length, getD}
-use lib.Dec.{eqb}
+use lib.Dec.{eqb, leb}
 use Rattle.automata.specs.Automaton.{anyBelow, guard, fits, leads, step, blocked, trapStep, final}
+use Rattle.automata.specs.Acceptance.{lassoAt}
 use Rattle.automata.specs.Bits.{bit}
-use Rattle.automata.proofs.Any.{any-elim, and-left, and-right, false-not-true}
-use Rattle.plan.specs.WellFormed.{soft, WellFormed}
-use Rattle.plan.specs.Size.{size, productBelow, roomy}
+use Rattle.automata.proofs.Any.{and-left, and-right, false-not-true}
+use Rattle.plan.specs.WellFormed.{WellFormed}
+use Rattle.plan.specs.Size.{size, productBelow}
 use Rattle.plan.specs.Tour.{IsLasso, Hard, Soft, joins}
-use Rattle.plan.specs.Cost.{sumBelow, keeps, cost, costOf}
-use Rattle.plan.specs.Key.{tie, keyOf}
+use Rattle.plan.specs.Cost.{sumBelow, keeps, KeptIs, cost, costOf, Better}
+use Rattle.plan.specs.Key.{tie, keyOf, key}
 use Rattle.plan.specs.declared.Plan.{Plan}
-use Rattle.compile.specs.Product.{radices, tuple, nodeOf, startNode, placeOf, hardOf, softOf, arcOf}
+use Rattle.plan.proofs.Keys.{key-mono, key-better}
+use Rattle.reader.specs.Text.{startsWith, isDigit, canonical, digits, value, leading, numberAt, keyAt, after}
+use Rattle.reader.specs.Line.{within, judge, judgeOne, lineOfOne, judgeTwo, lineOfTwo, judgeFour, lineOfFour, finish}
+use Rattle.reader.specs.Blocks.{repeat, labelBlock, roadBlock, moveBlock, automatonBlock, hardBlock, softBlock, softBlocks}
+use Rattle.reader.specs.Map.{mapOf}
+use Rattle.reader.specs.Reading.{draftOf, admit, answer, readPlan}
+use Rattle.reader.specs.declared.Outcome.{Outcome}
+use Rattle.reader.specs.declared.Outcome.the-variants as outcome
+use Rattle.reader.proofs.WellRead.{read-well}
 use Rattle.product.specs.Net.{allBelow}
 use Rattle.product.specs.Radix.{stride, encode}
-use Rattle.serve.specs.Upcoming.{upcomingPlaces}
-use Rattle.plan.specs.declared.Refusal.the-variants as refusal
-use Rattle.planner.specs.Promise.{verdict, refuse, go, choose}
-use Rattle.graph.specs.Paths.{Walk}
-use Rattle.optimality.specs.Offer.{Edge, Choice}
 use Rattle.product.proofs.Tests.{all-elim}
-use Rattle.optimality.proofs.Best.{tour-best, tour-none, exact}
-use Rattle.optimality.proofs.Witness.{witness-lasso, witness-hard, witness-soft}
-use Rattle.figures.specs.Certificate.{Certificate, implies, sound, falling, inner, bestBy, noneBy, walksBy, allOf}
+use Rattle.compile.specs.Product.{radices, tuple, nodeOf, arcOf, coloursBelow}
+use Rattle.optimality.specs.Offer.{Choice}
+use Rattle.optimality.proofs.Bound.{bound}
+use Rattle.optimality.proofs.Best.{lasso-drive, hard-unrolls, soft-unrolls, tour-best, tour-none, exact}
+use Rattle.serve.specs.Upcoming.{upcomingPlaces}
+use Rattle.figures.specs.Bytes.{bytes}
+use Rattle.figures.specs.Certificate.{implies, everyOf, someOf, listed, shades, parted, walksBy}
+use Rattle.figures.specs.Claim.{Room, Numbers, tour, refusal, Answers, Dear}
+use Rattle.figures.specs.Figure.{Route, Reason, best, none, short, Figure, answers, dear, served, planOf, Holds}
+use Rattle.figures.specs.Figure.{isPlan, allOf, alike, reasonTests, lighter, dearTests, same, isRead, passes}
 use Rattle.figures.specs.Cases.{figures}
-use Rattle.figures.specs.Figure.{Route, Figure, best, refused, served, room, BestIs, NoneIs, Holds, meets, bestTests, noneTests, same, alike, passes}
-use Rattle.figures.proofs.Ranges.{all-nth, well-formed}
-use Rattle.figures.proofs.Certificates.{mp, best-by, none-by, walks-by}
+use Rattle.figures.proofs.Certificates.{mp, offered, best-by, none-by}
+use Rattle.figures.proofs.Routes.{all-nth, stem, cycle, lasso, hard, softs}
+use Rattle.figures.proofs.Answers.{answers-tour, answers-none, answers-short}
 
 same-sound : (xs ys : List ℕ) → same xs ys ≡ true → xs ≡ ys
 same-sound [] [] h = refl
@@ -40,84 +56,101 @@ same-sound [] (y ∷ ys) h = absurd (false-not-true h refl)
 same-sound (x ∷ xs) [] h = absurd (false-not-true h refl)
 same-sound (x ∷ xs) (y ∷ ys) h = ap₂ (λ a l. a ∷ l) (eqb-true x y (and-left (eqb x y) (same xs ys) h)) (same-sound xs ys (and-right (eqb x y) (same xs ys) h))
 
-alike-sound : (a b : Bool) → alike a b ≡ true → a ≡ b
-alike-sound true true h = refl
-alike-sound true false h = absurd (false-not-true h refl)
-alike-sound false true h = absurd (false-not-true h refl)
-alike-sound false false h = refl
+alike-sound : (x y : Numbers) → allOf (alike x y) ≡ true → x ≡ y
+alike-sound x y h =
+    let test = all-nth (alike x y) h in
+    let number = eqb-true (x .number) (y .number) (test 0) in
+    let cost = eqb-true (x .cost) (y .cost) (test 1) in
+    let kept = eqb-true (x .kept) (y .kept) (test 2) in
+    let count = eqb-true (x .count) (y .count) (test 3) in
+    λ i. record { number = number i; cost = cost i; kept = kept i; count = count i }
 
-module _ (p : Plan) (n c k count : ℕ) (by : Certificate) (r : Route) (h : allOf (bestTests p n c k count by r) ≡ true) where
-  test : (i : ℕ) → getD (bestTests p n c k count by r) i true ≡ true
-  test = all-nth (bestTests p n c k count by r) h
+plan-sound : (o : Outcome) → isPlan o ≡ true → o ≡ outcome.Plan
+plan-sound (outcome.Refused x) h = absurd (false-not-true h refl)
+plan-sound outcome.Plan h = refl
+
+-- ---- an answer
+
+module _ (text : List ℕ) (room : Room) (x : Numbers) (o : readPlan text .outcome ≡ outcome.Plan) where
+  abbrev p : Plan
+  p = readPlan text .plan
 
   ok : WellFormed p
-  ok = well-formed p (test 0)
+  ok = read-well text o
 
-  small : k < 2 ^ p .rules
-  small = ltb-true k (2 ^ p .rules) (test 2)
+  reason-holds : (by : Reason) → allOf (reasonTests p room x by) ≡ true → Answers text room x
+  reason-holds (best cs r) h =
+      let test = all-nth (reasonTests p room x (best cs r)) h in
+      let k = x .kept in
+      let small : k < 2 ^ p .rules = ltb-true k (2 ^ p .rules) (test 2) in
+      let choice : Choice p k = best-by p k cs (test 3) in
+      let d = test 4 in
+      let kept = exact p ok k small choice (stem p ok k r d) (cycle p ok k r d) (lasso p ok k r d) (hard p ok k r d) (softs p ok k r d) in
+      subst (Answers text room) (alike-sound (tour (cost p k) k (ones k)) x (test 0))
+      (answers-tour text room o (test 1) k (tour-best p ok k small choice) (stem p ok k r d) (cycle p ok k r d) (lasso p ok k r d) (hard p ok k r d) kept)
+  reason-holds (none cs) h =
+      let test = all-nth (reasonTests p room x (none cs)) h in
+      subst (Answers text room) (alike-sound (refusal 6) x (test 0)) (answers-none text room o (test 1) (tour-none p ok (none-by p cs (test 2))))
+  reason-holds short h =
+      let test = all-nth (reasonTests p room x short) h in
+      subst (Answers text room) (alike-sound (refusal 5) x (test 0)) (answers-short text room o (test 1))
 
-  choice : Choice p k
-  choice = best-by p k by (test 5)
+-- ---- a rule that is not worth it
 
-  stem-walk : Walk (Edge p) (startNode p) (r .stem) (r .home)
-  stem-walk = walks-by p (startNode p) (r .stem) (r .home) (test 6)
+better-cost : (p : Plan) (k k′ : ℕ) → (k ≡ k′) ⊎ Better p k k′ → cost p k ≤ cost p k′
+better-cost p k k′ (inl e) = rw e (omega arith)
+better-cost p k k′ (inr (inl l)) = omega arith
+better-cost p k k′ (inr (inr (e, f))) = omega arith
 
-  cycle-walk : Walk (Edge p) (r .home) (r .cycle) (r .home)
-  cycle-walk = walks-by p (r .home) (r .cycle) (r .home) (test 7)
+module _ (p : Plan) (ok : WellFormed p) (rule least k : ℕ) (cs : List (List ℕ)) (r : Route) (h : allOf (dearTests p rule least k cs r) ≡ true) where
+  test : (i : ℕ) → getD (dearTests p rule least k cs r) i true ≡ true
+  test = all-nth (dearTests p rule least k cs r) h
 
-  filled : 0 < length (r .cycle)
-  filled = ltb-true 0 (length (r .cycle)) (test 8)
+  inside : rule < p .rules
+  inside = ltb-true rule (p .rules) (test 0)
 
-  stem : List ℕ
-  stem = map (placeOf p) (r .stem)
+  costs : (stem cycle : List ℕ) → IsLasso p stem cycle → Hard p stem cycle → Soft p stem cycle rule → (k′ : ℕ) → KeptIs p stem cycle k′ → least ≤ cost p k′
+  costs stem cycle lasso hard soft k′ kept =
+      let drive = lasso-drive p stem cycle lasso in
+      let q : ℕ → Bool = λ m. implies (keeps m rule) (leb (key p k) (key p m)) in
+      let b = bound p ok (lassoAt stem cycle) drive (hard-unrolls p stem cycle lasso hard) k′ (λ i l e. soft-unrolls p stem cycle lasso i (kept .accepted i l e)) in
+      let m = offered p q cs (test 5) (b .0) k′ (b .1) (b .2) in
+      let le = leb-true (key p k) (key p (m .0)) (mp (keeps (m .0) rule) _ (m .1) (m .2 rule inside has-rule)) in
+      let small : k < 2 ^ p .rules = ltb-true k (2 ^ p .rules) (test 3) in
+      let e : cost p k ≡ least = eqb-true (cost p k) least (test 2) in
+      let better = key-better p (ok .rules) k k′ small (kept .small) (le-trans le (key-mono (p .weights) (p .rules) k′ (m .0) (m .2))) in
+      rw (← e) (better-cost p k k′ better)
+    where
+      has-rule : keeps k′ rule ≡ true
+      has-rule = by (keeps k′ rule) refl
+        where
+          by : (b : Bool) → keeps k′ rule ≡ b → b ≡ true
+          by true e = refl
+          by false e = absurd (kept .refused rule inside e soft)
 
-  cycle : List ℕ
-  cycle = map (placeOf p) (r .cycle)
-
-  lasso : IsLasso p stem cycle
-  unfolding stem cycle
-  lasso = witness-lasso p ok (r .home) (r .stem) (r .cycle) stem-walk cycle-walk filled
-
-  hard : Hard p stem cycle
-  unfolding stem cycle
-  hard =
-      let m = any-elim (λ t. final (p .hard) (hardOf p (getD (r .cycle) t (r .home)))) (suc (length (r .cycle))) (test 9) in
-      witness-hard p ok (r .home) (r .stem) (r .cycle) stem-walk cycle-walk filled (m .0) (omega arith) (m .2)
-
-  softs : (i : ℕ) → i < p .rules → keeps k i ≡ true → Soft p stem cycle i
-  unfolding stem cycle
-  softs i l e =
-      let q : ℕ → Bool = λ i. implies (keeps k i) (meets r (λ v. final (soft p i) (softOf p i v))) in
-      let m = any-elim (λ t. final (soft p i) (softOf p i (getD (r .cycle) t (r .home)))) (suc (length (r .cycle))) (mp (keeps k i) _ (all-elim q (p .rules) (test 10) i l) e) in
-      witness-soft p ok (r .home) (r .stem) (r .cycle) stem-walk cycle-walk filled i l (m .0) (omega arith) (m .2)
-
-  best-holds : BestIs p n c k count
-  best-holds = record {
-    nodes = eqb-true (size p) n (test 1);
-    stem = stem;
-    cycle = cycle;
-    lasso = lasso;
-    hard = hard;
-    kept = exact p ok k small choice stem cycle lasso hard softs;
-    costs = eqb-true (cost p k) c (test 3);
-    counts = eqb-true (ones k) count (test 4);
-    best = tour-best p ok k small choice;
+  dear-holds : Dear p rule least
+  dear-holds = record {
+    listed = inside;
+    heaviest = λ i l apart. ltb-true _ _ (mp (not (eqb i rule)) _ (all-elim (lighter p rule) (p .rules) (test 1) i l) (rw (ne-eqb i rule apart)));
+    stem = stem p ok k r (test 6);
+    cycle = cycle p ok k r (test 6);
+    lasso = lasso p ok k r (test 6);
+    hard = hard p ok k r (test 6);
+    kept = softs p ok k r (test 6) rule inside (test 4);
+    dear = costs;
   }
 
-none-holds : (p : Plan) (n : ℕ) (by : Certificate) → allOf (noneTests p n by) ≡ true → NoneIs p n
-none-holds p n by h = record { nodes = eqb-true (size p) n (test 1); none = tour-none p (well-formed p (test 0)) (none-by p by (test 2)) }
-  where
-    test : (i : ℕ) → getD (noneTests p n by) i true ≡ true
-    test = all-nth (noneTests p n by) h
+-- ---- the list
 
 pub passes-holds : (f : Figure) → passes f ≡ true → Holds f
-unfolding passes Holds verdict
-passes-holds (best p n c k count by r) h = best-holds p n c k count by r h
-passes-holds (refused p n by) h = none-holds p n by h
+unfolding passes Holds
+passes-holds (answers text n room x by) h =
+    let test = all-nth (isRead text ∷ eqb (size (planOf text)) n ∷ allOf (reasonTests (planOf text) room x by) ∷ []) h in
+    (eqb-true (size (planOf text)) n (test 1), reason-holds (bytes text) room x (plan-sound _ (test 0)) by (test 2))
+passes-holds (dear text rule least k cs r) h =
+    let test = all-nth (isRead text ∷ allOf (dearTests (planOf text) rule least k cs r) ∷ []) h in
+    dear-holds (planOf text) (read-well (bytes text) (plan-sound _ (test 0))) rule least k cs r (test 1)
 passes-holds (served stem cycle t part) h = same-sound (upcomingPlaces stem cycle t) part h
-passes-holds (room p runin loop ok) h = ap (λ b. choose b (go p) (refuse refusal.BufferTooShort)) (alike-sound (roomy p runin loop) ok h)
-
--- ---- the list
 
 pass : List Figure → Bool
 pass [] = true
@@ -130,7 +163,11 @@ pass-holds (f ∷ fs) h zero l = passes-holds f (and-left (passes f) (pass fs) h
 pass-holds (f ∷ fs) h (suc i) l = pass-holds fs (and-right (passes f) (pass fs) h) i (omega arith)
 
 all-pass : pass figures ≡ true
-unfolding pass passes allOf size productBelow bestBy noneBy sound falling inner walksBy allBelow arcOf nodeOf tuple encode stride radices joins step trapStep blocked leads fits guard anyBelow final bit costOf keyOf tie sumBelow ones onesIn upcomingPlaces
+unfolding pass passes allOf bytes upcomingPlaces
+    readPlan answer admit draftOf mapOf labelBlock roadBlock moveBlock automatonBlock hardBlock softBlock softBlocks repeat
+    within judge judgeOne lineOfOne judgeTwo lineOfTwo judgeFour lineOfFour finish startsWith isDigit canonical digits value leading numberAt keyAt after
+    size productBelow everyOf someOf listed shades parted walksBy allBelow arcOf nodeOf tuple encode stride radices
+    joins step trapStep blocked leads fits guard anyBelow final bit coloursBelow costOf keyOf tie sumBelow ones onesIn
 all-pass = refl
 
 pub figures-hold : (i : ℕ) → i < length figures → Holds (getD figures i (served [] [] 0 []))

@@ -1,4 +1,5 @@
 -- From a passed test to the claim.
-pub mod Ranges
 pub mod Certificates
+pub mod Routes
+pub mod Answers
 pub mod Figures

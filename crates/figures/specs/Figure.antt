@@ -1,78 +1,110 @@
--- Figures: what 01's "Figures to check against" claims, with what a test needs to confirm it.
+-- Figures: claims about plan files, each with what confirms it, and the test that it does.
 --   Route                     == nodes of the product graph: a walk `stem` to `home`, and one `cycle` round to it
---   Figure                    == a claim, with a certificate where it is one about tours
---     best p n cost kept count == the best tour of p, whose N is n, has this cost, kept byte and count
---     refused p n              == no tour of p is accepted by the hard rule
+--   Reason                    == why an answer is so
+--     best parts route        == the route keeps the set, and none of the parts offers a better one
+--     none parts              == none of the parts offers a tour
+--     short                   == a buffer is too short
+--   Figure                    == a claim, with what confirms it
+--     answers text n room x   == N of the plan file is n, and it is answered by x
+--     dear text rule least k  == keeping that rule costs at least `least`; k is the best set that has the rule
 --     served stem cycle t part == the upcoming places at step t
---     room p runin loop ok     == with buffers of these lengths p is planned, or it is refused with 5
+--   planOf text               == the plan that a plan file reads as
 --   Holds f                   == the claim
 --   passes f                  == the test
 use mathlib.Core.Path.{_≡_}
-use mathlib.Core.Bool.{Bool, true, false, _&&_}
+use mathlib.Core.Bool.{Bool, true, false, not, _&&_}
 use mathlib.Core.List.{List, [], _∷_}
 use Prim.Native.Nat.{ℕ, suc, _^_}
+use Prim.Native.String.{String}
 use lib.Count.{ones}
 use lib.ListN.{length, getD}
-use lib.Dec.{eqb, ltb}
+use lib.Dec.{eqb, ltb, leb}
 use Rattle.automata.specs.Automaton.{anyBelow, final}
-use Rattle.plan.specs.WellFormed.{soft}
+use Rattle.plan.specs.WellFormed.{soft, weight}
 use Rattle.plan.specs.Size.{size, roomy}
-use Rattle.plan.specs.Tour.{IsLasso, Hard}
-use Rattle.plan.specs.Cost.{keeps, KeptIs, cost, Best}
+use Rattle.plan.specs.Cost.{keeps, cost}
+use Rattle.plan.specs.Key.{key}
 use Rattle.plan.specs.declared.Plan.{Plan}
+use Rattle.reader.specs.Reading.{readPlan}
+use Rattle.reader.specs.declared.Outcome.{Outcome}
+use Rattle.reader.specs.declared.Outcome.the-variants as outcome
 use Rattle.product.specs.Net.{allBelow}
 use Rattle.compile.specs.Product.{startNode, hardOf, softOf}
 use Rattle.serve.specs.Upcoming.{upcomingPlaces}
-use Rattle.plan.specs.declared.Refusal.the-variants as refusal
-use Rattle.reader.specs.declared.Outcome.the-variants as outcome
-use Rattle.planner.specs.Promise.{verdict, refuse, go, choose}
-use Rattle.figures.specs.Certificate.{Certificate, implies, bestBy, noneBy, walksBy, allOf, wellFormed}
+use Rattle.figures.specs.Bytes.{bytes}
+use Rattle.figures.specs.Claim.{Room, atLeast, exactly, Numbers, tour, refusal, Answers, Dear}
+use Rattle.figures.specs.Certificate.{implies, certified, walksBy}
 
 pub record Route : Type 0 where
   pub stem : List ℕ
   pub home : ℕ
   pub cycle : List ℕ
 
+pub data Reason : Type 0 where
+  best : List (List ℕ) → Route → Reason
+  none : List (List ℕ) → Reason
+  short : Reason
+
 pub data Figure : Type 0 where
-  best : (p : Plan) (n cost kept count : ℕ) → Certificate → Route → Figure
-  refused : (p : Plan) (n : ℕ) → Certificate → Figure
+  answers : (text : String) (n : ℕ) (room : Room) (x : Numbers) → Reason → Figure
+  dear : (text : String) (rule least : ℕ) (kept : ℕ) → List (List ℕ) → Route → Figure
   served : (stem cycle : List ℕ) (t : ℕ) (part : List ℕ) → Figure
-  room : (p : Plan) (runin loop : ℕ) (ok : Bool) → Figure
 
-pub record BestIs (p : Plan) (n c k count : ℕ) : Type 0 where
-  pub nodes : size p ≡ n
-  pub stem : List ℕ
-  pub cycle : List ℕ
-  pub lasso : IsLasso p stem cycle
-  pub hard : Hard p stem cycle
-  pub kept : KeptIs p stem cycle k
-  pub costs : cost p k ≡ c
-  pub counts : ones k ≡ count
-  pub best : Best p k
-
-pub record NoneIs (p : Plan) (n : ℕ) : Type 0 where
-  pub nodes : size p ≡ n
-  pub none : (stem cycle : List ℕ) → IsLasso p stem cycle → Hard p stem cycle → ⊥
+abbrev pub planOf : String → Plan
+planOf text = readPlan (bytes text) .plan
 
 unfoldable pub Holds : Figure → Type 0
-Holds (best p n c k count by route) = BestIs p n c k count
-Holds (refused p n by) = NoneIs p n
+Holds (answers text n room x by) = (size (planOf text) ≡ n) × Answers (bytes text) room x
+Holds (dear text rule least kept by route) = Dear (planOf text) rule least
 Holds (served stem cycle t part) = upcomingPlaces stem cycle t ≡ part
-Holds (room p runin loop ok) = verdict outcome.Plan p runin loop ≡ choose ok (go p) (refuse refusal.BufferTooShort)
+
+-- ---- the tests
+
+abbrev pub isPlan : Outcome → Bool
+isPlan (outcome.Refused x) = false
+isPlan outcome.Plan = true
+
+abbrev pub enough : Room → Plan → Bool
+enough (atLeast runin loop) p = roomy p runin loop
+enough (exactly runin loop) p = roomy p runin loop
+
+abbrev pub lacking : Room → Plan → Bool
+lacking (atLeast runin loop) p = false
+lacking (exactly runin loop) p = not (roomy p runin loop)
+
+unfoldable pub allOf : List Bool → Bool
+allOf [] = true
+allOf (b ∷ bs) = b && allOf bs
+
+abbrev pub alike : Numbers → Numbers → List Bool
+alike x y = eqb (x .number) (y .number) ∷ eqb (x .cost) (y .cost) ∷ eqb (x .kept) (y .kept) ∷ eqb (x .count) (y .count) ∷ []
 
 -- some node of a route's cycle passes a test
 abbrev pub meets : Route → (ℕ → Bool) → Bool
 meets r q = anyBelow (suc (length (r .cycle))) (λ t. q (getD (r .cycle) t (r .home)))
 
-abbrev pub bestTests : Plan → ℕ → ℕ → ℕ → ℕ → Certificate → Route → List Bool
-bestTests p n c k count by r =
-    wellFormed p ∷ eqb (size p) n ∷ ltb k (2 ^ p .rules) ∷ eqb (cost p k) c ∷ eqb (ones k) count ∷ bestBy p k by
-    ∷ walksBy p (startNode p) (r .stem) (r .home) ∷ walksBy p (r .home) (r .cycle) (r .home) ∷ ltb 0 (length (r .cycle))
+-- a route is a tour that the hard rule and the soft rules of k accept
+abbrev pub driveTests : Plan → ℕ → Route → List Bool
+driveTests p k r =
+    walksBy p (startNode p) (r .stem) (r .home) ∷ walksBy p (r .home) (r .cycle) (r .home) ∷ ltb 0 (length (r .cycle))
     ∷ meets r (λ v. final (p .hard) (hardOf p v))
     ∷ allBelow (p .rules) (λ i. implies (keeps k i) (meets r (λ v. final (soft p i) (softOf p i v)))) ∷ []
 
-abbrev pub noneTests : Plan → ℕ → Certificate → List Bool
-noneTests p n by = wellFormed p ∷ eqb (size p) n ∷ noneBy p by ∷ []
+abbrev pub reasonTests : Plan → Room → Numbers → Reason → List Bool
+reasonTests p room x (best cs r) =
+    allOf (alike (tour (cost p (x .kept)) (x .kept) (ones (x .kept))) x) ∷ enough room p ∷ ltb (x .kept) (2 ^ p .rules)
+    ∷ certified p (λ m. leb (key p (x .kept)) (key p m)) cs ∷ allOf (driveTests p (x .kept) r) ∷ []
+reasonTests p room x (none cs) = allOf (alike (refusal 6) x) ∷ enough room p ∷ certified p (λ m. false) cs ∷ []
+reasonTests p room x short = allOf (alike (refusal 5) x) ∷ lacking room p ∷ []
+
+-- soft rule i + 1 is the rule, or weighs less
+abbrev pub lighter : Plan → ℕ → ℕ → Bool
+lighter p rule i = implies (not (eqb i rule)) (ltb (weight p i) (weight p rule))
+
+abbrev pub dearTests : Plan → ℕ → ℕ → ℕ → List (List ℕ) → Route → List Bool
+dearTests p rule least k cs r =
+    ltb rule (p .rules) ∷ allBelow (p .rules) (lighter p rule) ∷ eqb (cost p k) least ∷ ltb k (2 ^ p .rules) ∷ keeps k rule
+    ∷ certified p (λ m. implies (keeps m rule) (leb (key p k) (key p m))) cs ∷ allOf (driveTests p k r) ∷ []
 
 abbrev pub same : List ℕ → List ℕ → Bool
 same [] [] = true
@@ -80,13 +112,10 @@ same [] (y ∷ ys) = false
 same (x ∷ xs) [] = false
 same (x ∷ xs) (y ∷ ys) = eqb x y && same xs ys
 
-abbrev pub alike : Bool → Bool → Bool
-alike true b = b
-alike false true = false
-alike false false = true
+abbrev pub isRead : String → Bool
+isRead text = isPlan (readPlan (bytes text) .outcome)
 
 unfoldable pub passes : Figure → Bool
-passes (best p n c k count by route) = allOf (bestTests p n c k count by route)
-passes (refused p n by) = allOf (noneTests p n by)
+passes (answers text n room x by) = allOf (isRead text ∷ eqb (size (planOf text)) n ∷ allOf (reasonTests (planOf text) room x by) ∷ [])
+passes (dear text rule least k cs r) = allOf (isRead text ∷ allOf (dearTests (planOf text) rule least k cs r) ∷ [])
 passes (served stem cycle t part) = same (upcomingPlaces stem cycle t) part
-passes (room p runin loop ok) = alike (roomy p runin loop) ok
