@@ -3,6 +3,7 @@ pub mod Sums
 pub mod Ties
 pub mod Keys
 pub mod Tours
+pub mod Repeats
 pub mod Charging
 pub mod Counts
 pub mod Rooms

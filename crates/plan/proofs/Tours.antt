@@ -1,16 +1,17 @@
 -- Laws of tours, and two readings of 01 that the definitions shut out.
 --   best-kept   == demand 3 to the letter: the best set against the kept byte of every tour that the hard rule accepts
---   lone-place  == a lone place is a loop only where a road leads from it to itself
+--   lone-place  == a lone place is the loop of a tour, whatever its run-in, only where a road leads from it to itself
 --   no-road-out == a place without a road out is on no tour
-use mathlib.Core.Path.{_≡_}
+use mathlib.Core.Path.{_≡_, ap, _∙_}
 use mathlib.Core.Bool.{true, false}
 use mathlib.Core.Logic.{_⊎_}
 use mathlib.Core.List.{List, [], _∷_}
-use Prim.Native.Nat.{ℕ, suc, _+_, _<_}
+use Prim.Native.Nat.{ℕ, suc, _+_, _-_, _%_, _≤_, _<_}
 use native.Mathlib.Omega.{arith}
-use lib.ListN.{length}
+use lib.ListN.{length, getD}
 use Rattle.automata.specs.Acceptance.{lassoAt}
 use Rattle.automata.proofs.Any.{false-not-true}
+use Rattle.automata.proofs.Lassos.{lasso-cycle}
 use Rattle.plan.specs.Tour.{IsLasso, Hard, joins}
 use Rattle.plan.specs.Cost.{KeptIs, Better, Best}
 use Rattle.plan.specs.declared.Plan.{Plan}
@@ -19,9 +20,11 @@ module _ (p : Plan) where
   pub best-kept : (k : ℕ) → Best p k → (stem cycle : List ℕ) → IsLasso p stem cycle → Hard p stem cycle → (k′ : ℕ) → KeptIs p stem cycle k′ → (k ≡ k′) ⊎ Better p k k′
   best-kept k best stem cycle lasso hard k′ kept = best stem cycle lasso hard k′ (kept .small) (kept .accepted)
 
-  pub lone-place : (v : ℕ) → IsLasso p [] (v ∷ []) → joins p v v ≡ true
-  unfolding lassoAt
-  lone-place v lasso = lasso .roads 0 (omega arith)
+  pub lone-place : (stem : List ℕ) (v : ℕ) → IsLasso p stem (v ∷ []) → joins p v v ≡ true
+  lone-place stem v lasso = rw (at (length stem) (omega arith), at (suc (length stem)) (omega arith)) at (lasso .roads (length stem) (omega arith))
+    where
+      at : (t : ℕ) → length stem ≤ t → lassoAt stem (v ∷ []) t ≡ v
+      at t h = let e : (t - length stem) % 1 ≡ 0 = omega arith in lasso-cycle stem (v ∷ []) t h ∙ ap (λ i. getD (v ∷ []) i 0) e
 
   pub no-road-out : (v : ℕ) → ((w : ℕ) → joins p v w ≡ false) → (stem cycle : List ℕ) → IsLasso p stem cycle
       → (t : ℕ) → t < length stem + length cycle → lassoAt stem cycle t ≡ v → ⊥
