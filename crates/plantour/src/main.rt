@@ -3,5 +3,5 @@
 // There is room for one byte more than the longest plan has: of a longer input no more is taken, and it is refused.
 fn main() {
     let mut plan = [0u8; 60001];
-    console::answer_text(&mut plan);
+    console::answer_input(&mut plan);
 }

@@ -30,7 +30,7 @@ fn next_file(buffer: &mut [u8]) -> bool {
     if buffer.len() < n {
         return false;
     }
-    console::answer_text(&mut buffer[..n]);
+    console::answer_input(&mut buffer[..n]);
     true
 }
 

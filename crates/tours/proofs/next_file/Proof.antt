@@ -20,14 +20,14 @@ length-in-requires c κs = search needs
 returns-2 : tie.Need-returns-2
 returns-2 c = search needs
 
-slice-relend-prefix-answer-text : tie.Need-slice-relend-prefix-answer-text
-slice-relend-prefix-answer-text c = search needs
+slice-relend-prefix-answer-input : tie.Need-slice-relend-prefix-answer-input
+slice-relend-prefix-answer-input c = search needs
 
-slice-aggregate-answer-text : tie.Need-slice-aggregate-answer-text
-slice-aggregate-answer-text c = sym (length-take-le _ _ (c .before .if2 .left))
+slice-aggregate-answer-input : tie.Need-slice-aggregate-answer-input
+slice-aggregate-answer-input c = sym (length-take-le _ _ (c .before .if2 .left))
 
-answer-text-requires : tie.Need-answer-text-requires
-answer-text-requires c κs = search needs
+answer-input-requires : tie.Need-answer-input-requires
+answer-input-requires c κs = search needs
 
 same-length : tie.Need-same-length
 same-length c = search needs
@@ -44,8 +44,8 @@ next-file-spec =
     returns
     length-in-requires
     returns-2
-    slice-relend-prefix-answer-text
-    slice-aggregate-answer-text
-    answer-text-requires
+    slice-relend-prefix-answer-input
+    slice-aggregate-answer-input
+    answer-input-requires
     same-length
     returns-3)

@@ -1,0 +1,73 @@
+-- `answer_text` meets its contract: the lengths that the answer tells lie within the buffers (`told-fits`), so its places are
+-- prefixes of these, and their text has room.
+use Rattle.console.proofs.Printing.{prefix-long, text-printed}
+use Rattle.planner.proofs.Verdicts.{told-fits}
+use native.Mathlib.Omega.{arith}
+use lib.ListN.{length-take}
+use borrow.Author.Needs.{needs}
+use Rattle.console.proofs.answer_text.Statement.{statement}
+use Rattle.console.proofs.answer_text.Tie as tie
+
+-- the places that the answers below refer to
+abbrev answered : tie.After-struct-known2 → tie.After-file-answer
+answered c = c .before .before .before .before .before .before
+
+abbrev start : tie.After-file-answer → tie.Start
+start c = c .before .before .before .before .before .before .before
+
+file-answer-requires : tie.Need-file-answer-requires
+file-answer-requires c κs = search needs
+
+cast-stem : tie.Need-cast-stem
+cast-stem c = search needs
+
+cast-turn : tie.Need-cast-turn
+cast-turn c = search needs
+
+slice-reshare-prefix-write-text : tie.Need-slice-reshare-prefix-write-text
+slice-reshare-prefix-write-text c = let f = told-fits _ _ _ _ _ _ (answered c .file-answer .ensures) in omega (arith, f .0, f .1)
+
+slice-aggregate-write-text : tie.Need-slice-aggregate-write-text
+slice-aggregate-write-text c = let f = told-fits _ _ _ _ _ _ (answered (c .before) .file-answer .ensures) in prefix-long _ _ (omega (arith, f .0, f .1))
+
+slice-reshare-prefix-write-text-2 : tie.Need-slice-reshare-prefix-write-text-2
+slice-reshare-prefix-write-text-2 c = let f = told-fits _ _ _ _ _ _ (answered (c .before) .file-answer .ensures) in omega (arith, f .0, f .1)
+
+slice-aggregate-write-text-2 : tie.Need-slice-aggregate-write-text-2
+slice-aggregate-write-text-2 c = let f = told-fits _ _ _ _ _ _ (answered (c .before .before) .file-answer .ensures) in prefix-long _ _ (omega (arith, f .0, f .1))
+
+write-text-requires : tie.Need-write-text-requires
+write-text-requires c κs =
+    let told = answered (c .before .before .before) in
+    simp length-take (omega (arith, told .file-answer .kept, start told .pre))
+
+same-length : tie.Need-same-length
+same-length c = search needs
+
+same-length-2 : tie.Need-same-length-2
+same-length-2 c = search needs
+
+same-length-3 : tie.Need-same-length-3
+same-length-3 c = search needs
+
+returns : tie.Need-returns
+returns c =
+    let told = answered (c .before .before .before .before .before .before) in
+    text-printed _ _ _ _ _ _ _ _ _ (told .file-answer .ensures) (c .before .before .write-text .ensures .0) (c .before .before .write-text .ensures .1)
+
+pub answer-text-spec : {M : Type 1} → statement M
+answer-text-spec =
+    tie.close
+    (tie.spec
+    file-answer-requires
+    cast-stem
+    cast-turn
+    slice-reshare-prefix-write-text
+    slice-aggregate-write-text
+    slice-reshare-prefix-write-text-2
+    slice-aggregate-write-text-2
+    write-text-requires
+    same-length
+    same-length-2
+    same-length-3
+    returns)
