@@ -1,4 +1,4 @@
--- P5, the laws of the key; those of its order are for a plan with at most eight rules.
+-- P5 of docs/DESIGN.md, the laws of the key; those of its order are for a plan with at most eight rules.
 --   key-mono, key-strict == strictly antitone in the kept set, by the tie part alone: no weight need be positive
 --   key-better           == no greater key: the same set, or a better one
 --   better-key           == and back

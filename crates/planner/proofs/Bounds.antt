@@ -1,16 +1,16 @@
 -- How large the numbers of a told answer are.
 --   told-narrow == each has room in its bytes of the answer block
 --   never-short == with buffers of 2,048 and 20,480 bytes refusal 5 is never given
-use mathlib.Core.Path.{_≡_, refl, sym, ap, _∙_, subst}
+use mathlib.Core.Path.{_≡_, refl, ap}
 use mathlib.Core.Bool.{Bool, true, false}
 use mathlib.Core.List.{List}
 use mathlib.Core.Logic.{_≢_}
-use Prim.Native.Nat.{ℕ, _≤_, _<_}
+use Prim.Native.Nat.{ℕ, _≤_}
 use native.Mathlib.Omega.{arith}
 use lib.ListN.{length}
 use lib.Pow.{pow-mono}
 use Rattle.plan.specs.WellFormed.{WellFormed}
-use Rattle.plan.specs.Size.{size, loopRoom, roomy}
+use Rattle.plan.specs.Size.{size, roomy}
 use Rattle.plan.specs.Cost.{Counted, none as no-more, one, skip}
 use Rattle.plan.specs.Refusal as refused
 use Rattle.plan.specs.declared.Plan.{Plan}
@@ -25,7 +25,7 @@ use Rattle.reader.proofs.Answers.{read-low}
 use Rattle.reader.proofs.WellRead.{read-ok}
 use Rattle.answer.specs.Block.{Narrow}
 use Rattle.answer.specs.declared.Answer.{Answer}
-use Rattle.planner.specs.Promise.{Verdict, verdict, choose, refuse, go, refusalAnswer, TourOf, Planned, none, tour, Told}
+use Rattle.planner.specs.Promise.{verdict, choose, refuse, go, refusalAnswer, TourOf, Planned, none, tour, Told}
 use Rattle.planner.proofs.Steps.{cost-small}
 
 counted-le : {P : ℕ → Type 0} {n c : ℕ} → Counted P n c → c ≤ n

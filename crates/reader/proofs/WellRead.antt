@@ -1,5 +1,5 @@
--- A plan that was read is well formed, and its product has a size of at most 2,048 (`read-well`, `read-small`; `read-ok` of an answer); where a plan is turned
--- away, the plan of the answer is empty (`refused-empty`). The answer is a plan only where the text is short enough, no line has a fault
+-- A plan that was read is well formed, and its product has a size of at most 2,048 (`read-well`, `read-small`; `read-ok` of an answer).
+-- The answer is a plan only where the text is short enough, no line has a fault
 -- and the size is small; then every block was read without a fault.
 use mathlib.Core.Path.{_≡_, refl, sym, ap, _∙_, subst}
 use mathlib.Core.Bool.{Bool, true, false}
@@ -11,9 +11,8 @@ use lib.ListN.{length}
 use lib.Dec.{ltb}
 use borrow.Author.Tests.{ltb-false}
 use Rattle.plan.specs.Size.{size}
-use Rattle.plan.specs.WellFormed.{WellFormed, noPlan}
+use Rattle.plan.specs.WellFormed.{WellFormed}
 use Rattle.plan.specs.declared.Plan.{Plan}
-use Rattle.plan.specs.declared.Refusal.{Refusal}
 use Rattle.plan.specs.declared.Refusal.the-variants.{PlanTooLong, ProductTooLarge}
 use Rattle.reader.specs.Keys.{tourKey, marksKey, placesKey, startKey, roadsKey, rulesKey}
 use Rattle.reader.specs.Line.{lineOfOne, firstOf, top}
@@ -165,22 +164,3 @@ pub read-ok : (s : List ℕ) (r : Reading) → r ≡ readPlan s → r .outcome �
 read-ok s r same e =
     let o : readPlan s .outcome ≡ outcome.Plan = ap (λ x. x .outcome) (sym same) ∙ e in
     subst (λ x. WellFormed (x .plan) × (size (x .plan) ≤ 2048)) (sym same) (read-well s o, read-small s o)
-
-answer-empty : (l : Line) (p : Plan) (r : Refusal) → answer l p .outcome ≡ outcome.Refused r → answer l p .plan ≡ noPlan
-unfolding answer admit
-answer-empty (line.Fault f) p r e = refl
-answer-empty (line.Numbers xs c) p r e = by-test (ltb 2048 (size p)) e
-  where
-    by-test : (t : Bool) → choose t (refuse ProductTooLarge) (record { outcome = outcome.Plan; plan = p }) .outcome ≡ outcome.Refused r
-        → choose t (refuse ProductTooLarge) (record { outcome = outcome.Plan; plan = p }) .plan ≡ noPlan
-    by-test true e = refl
-    by-test false e = let z : _≡_ {A = ℕ} 0 1 = cc in absurd (omega arith)
-
-pub refused-empty : (s : List ℕ) (r : Refusal) → readPlan s .outcome ≡ outcome.Refused r → readPlan s .plan ≡ noPlan
-unfolding readPlan
-refused-empty s r e = by-test (ltb 60000 (length s)) e
-  where
-    by-test : (t : Bool) → choose t (refuse PlanTooLong) (answer (draftOf s .line) (draftOf s .plan)) .outcome ≡ outcome.Refused r
-        → choose t (refuse PlanTooLong) (answer (draftOf s .line) (draftOf s .plan)) .plan ≡ noPlan
-    by-test true e = refl
-    by-test false e = answer-empty (draftOf s .line) (draftOf s .plan) r e

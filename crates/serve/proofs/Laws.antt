@@ -1,16 +1,13 @@
--- The laws of `upcomingPlaces`: what it is in each of its three cases, by the two tests of the definition, and that a
--- tour, whose cycle is never empty, always has a place to come: each case leaves at least one place of its list.
+-- The laws of `upcomingPlaces`: what it is in each of its three cases, by the two tests of the definition.
 --   upcoming-stem     == below the stem's length: the rest of the stem
 --   upcoming-none     == later, with an empty cycle: nothing
 --   upcoming-cycle    == later, with a cycle that is not empty: the rest of this turn of it
---   upcoming-nonempty == with a cycle that is not empty: at least one place
 --   offset-stem, offset-none, offset-cycle == where the part begins in the same three cases, and that the places stand there
 --   in-stem, in-cycle == the offset lies within the list that step t stands in
 --   serves-stem, serves-cycle == from the offset on that list is what comes
 use mathlib.Core.Path.{_≡_, refl, sym, _∙_}
 use mathlib.Core.List.{List, []}
 use Prim.Native.Nat.{ℕ, _-_, _%_, _≤_, _<_}
-use native.Mathlib.Decide.{decLt}
 use native.Mathlib.Nat.{mod-lt}
 use native.Mathlib.Omega.{arith}
 use borrow.Author.Tests.{lt-ltb, le-ltb, eq-eqb, ne-eqb}
@@ -32,15 +29,6 @@ module _ (stem cycle : List ℕ) (t : ℕ) where
   unfolding upcomingPlaces
   upcoming-cycle past some =
       rw (le-ltb t (length stem) past, ne-eqb (length cycle) 0 (λ (e : length cycle ≡ 0). omega arith))
-
-  pub upcoming-nonempty : 0 < length cycle → 0 < length (upcomingPlaces stem cycle t)
-  upcoming-nonempty some = by (decLt t (length stem))
-    where
-      by : Dec (t < length stem) → 0 < length (upcomingPlaces stem cycle t)
-      by (yes below) = rw (upcoming-stem below) (simp length-drop (omega arith))
-      by (no past) =
-          rw (upcoming-cycle (omega arith) some)
-          (simp length-drop (omega (arith, mod-lt (t - length stem) some)))
 
 module _ (s l t : ℕ) where
   pub offset-stem : t < s → Offset s l t t

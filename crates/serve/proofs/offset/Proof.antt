@@ -1,5 +1,4 @@
 -- `offset` meets its contract: each of its three returns is one case of the definition, by the tests on the way to it.
-use native.Mathlib.Nat.{pos-of-ne-zero}
 use native.Mathlib.Omega.{arith}
 use borrow.Author.Needs.{needs}
 use Rattle.serve.proofs.Laws.{offset-stem, offset-none, offset-cycle}

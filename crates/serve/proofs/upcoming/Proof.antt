@@ -1,6 +1,5 @@
 -- `upcoming` meets its contract: the offset lies within the list that its test picks, and from there to the list's end stands
 -- what comes.
-use Prim.Native.Nat.{ℕ}
 use borrow.Author.Needs.{needs}
 use Rattle.serve.proofs.Laws.{in-stem, in-cycle, serves-stem, serves-cycle}
 use Rattle.serve.proofs.upcoming.Statement.{statement}
