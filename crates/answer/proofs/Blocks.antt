@@ -10,9 +10,9 @@ use Prim.Native.Nat.{ℕ, zero, suc, _*_, _/_, _^_, _≤_, _<_}
 use native.Mathlib.Nat.{div-add-mod', div-lt-iff-lt-mul, pow-zero, pow-suc}
 use native.Mathlib.Omega.{arith}
 use lib.ListN.{length, drop}
-use Rattle.answer.proofs.Overs.{left-start, left-next, left-last}
+use Rattle.text.proofs.Overs.{left-start, left-next, left-last}
 use Rattle.answer.specs.Block.{little, blockOf, number, answerOf, Narrow}
-use Rattle.answer.specs.Over.{over, Wrote}
+use Rattle.text.specs.Over.{over, Wrote}
 use Rattle.answer.specs.declared.Answer.{Answer}
 
 pub length-little : (n x : ℕ) → length (little n x) ≡ n

@@ -1,12 +1,12 @@
 -- Figures for the two forms of an answer, by computation.
 --   figure-text  == the six lines that 01, "For the host and for the rig", prints of its plan without an accepted tour
---   figure-list  == places are joined by commas, and no comma stands after the last
 --   figure-block == the block of an answer whose numbers take all their bytes
 use mathlib.Core.Path.{_≡_, refl}
 use mathlib.Core.List.{[], _∷_, _++_}
 use Rattle.answer.specs.Block.{little, blockOf}
-use Rattle.answer.specs.Decimal.{digits, decimal}
-use Rattle.answer.specs.Text.{commaed, joined, keyLine, figures, textOf}
+use Rattle.text.specs.Decimal.{digitsOf, decimal}
+use Rattle.text.specs.KeyLine.{joined, keyLine}
+use Rattle.answer.specs.Text.{figures, textOf}
 use Rattle.answer.specs.declared.Answer.{Answer}
 
 abbrev pub refused : Answer
@@ -19,13 +19,8 @@ pub figure-text : textOf refused [] []
     ++ ((99 ∷ 111 ∷ 115 ∷ 116 ∷ 61 ∷ 48 ∷ 10 ∷ [])
     ++ ((107 ∷ 101 ∷ 112 ∷ 116 ∷ 61 ∷ 48 ∷ 10 ∷ [])
     ++ ((114 ∷ 117 ∷ 110 ∷ 105 ∷ 110 ∷ 61 ∷ 10 ∷ []) ++ (108 ∷ 111 ∷ 111 ∷ 112 ∷ 61 ∷ 10 ∷ [])))))
-unfolding digits decimal commaed joined keyLine figures textOf
+unfolding digitsOf decimal joined keyLine figures textOf
 figure-text = refl
-
--- 0,10,127
-pub figure-list : joined (0 ∷ 10 ∷ 127 ∷ []) ≡ 48 ∷ 44 ∷ 49 ∷ 48 ∷ 44 ∷ 49 ∷ 50 ∷ 55 ∷ []
-unfolding digits decimal commaed joined
-figure-list = refl
 
 abbrev pub wideAnswer : Answer
 wideAnswer =

@@ -1,4 +1,2 @@
-pub mod Over
 pub mod Block
-pub mod Decimal
 pub mod Text

@@ -1,25 +1,12 @@
 -- The six lines that program plantour prints (01, "For the host and for the rig").
---   commaed ps            == each place of ps in decimal behind a comma
---   joined ps             == the places ps in decimal, joined by commas
---   keyLine key value     == a key, its value, and the end of the line
 --   answerKey to loopKey  == the keys with their equals sign, in the order of the lines
 --   figures a             == the four lines of an answer that hold a number
 --   textOf a stem cycle   == all six lines
 use mathlib.Core.List.{List, [], _∷_, _++_}
 use Prim.Native.Nat.{ℕ}
-use Rattle.answer.specs.Decimal.{decimal}
+use Rattle.text.specs.Decimal.{decimal}
+use Rattle.text.specs.KeyLine.{joined, keyLine}
 use Rattle.answer.specs.declared.Answer.{Answer}
-
-unfoldable pub commaed : List ℕ → List ℕ
-commaed [] = []
-commaed (p ∷ ps) = 44 ∷ (decimal p ++ commaed ps)
-
-unfoldable pub joined : List ℕ → List ℕ
-joined [] = []
-joined (p ∷ ps) = decimal p ++ commaed ps
-
-unfoldable pub keyLine : List ℕ → List ℕ → List ℕ
-keyLine key value = key ++ (value ++ (10 ∷ []))
 
 abbrev pub answerKey : List ℕ
 answerKey = 97 ∷ 110 ∷ 115 ∷ 119 ∷ 101 ∷ 114 ∷ 61 ∷ []

@@ -1,12 +1,13 @@
 //! What the planner answers: as the sixteen bytes of the answer block, and as the six lines of a text.
+use text::write::put_list_line;
+use text::write::put_number_line;
 ghost use mathlib.Core.Path.{_≡_};
-ghost use mathlib.Core.List.{[], _∷_, _++_};
-ghost use Prim.Native.Nat.{_+_, _*_, _≤_, _<_};
+ghost use mathlib.Core.List.{_++_};
+ghost use Prim.Native.Nat.{_+_, _*_, _≤_};
 ghost use lib.ListN.{length, drop};
-ghost use Rattle.answer.specs.Over.{Wrote};
+ghost use Rattle.text.specs.Over.{Wrote};
 ghost use Rattle.answer.specs.Block.{little, blockOf};
-ghost use Rattle.answer.specs.Decimal.{decimal};
-ghost use Rattle.answer.specs.Text.{commaed, joined, keyLine, figures, textOf};
+ghost use Rattle.answer.specs.Text.{figures, textOf};
 
 // An answer but for its places: `number` is 0 for a tour, else that of the refusal, and `line` the faulty line of the
 // plan or 0. `count` is how many soft rules `kept` keeps, `stem` and `cycle` are the lengths of run-in and loop.
@@ -47,98 +48,6 @@ pub fn put_block(a: Answer, block: &mut [u8])
     put_little(block, 8, 4, a.cost);
     put_little(block, 12, 2, a.stem);
     put_little(block, 14, 2, a.cycle);
-}
-
-// Each writer of text puts its bytes over those of `out` from `at` on, and gives the place after its last.
-fn put_byte(out: &mut [u8], at: usize, byte: u8) -> usize
-    requires { ⌜ at < length (now out) ⌝ }
-    ensures { λ r. ⌜ Wrote (now (out .entry)) at (byte ∷ []) (now (out .exit)) r ⌝ }
-{
-    out[at] = byte;
-    at + 1
-}
-
-fn put_bytes(out: &mut [u8], at: usize, bytes: &[u8]) -> usize
-    requires { ⌜ at + length (now bytes) ≤ length (now out) ⌝ }
-    ensures { λ r. ⌜ Wrote (now (out .entry)) at (now (bytes .entry)) (now (out .exit)) r ⌝ }
-{
-    let mut i = 0;
-    while i < bytes.len() {
-        out[at + i] = bytes[i];
-        i += 1;
-    }
-    at + i
-}
-
-// A digit as a byte of text.
-fn glyph(digit: u32) -> u8
-    requires { ⌜ digit < 10 ⌝ }
-    ensures { λ r. ⌜ r ≡ 48 + digit ⌝ }
-{
-    b'0' + digit as u8
-}
-
-// A number in decimal: the digits of its tenth, and then the last one.
-fn put_decimal(out: &mut [u8], at: usize, x: u32) -> usize
-    requires { ⌜ at + length (decimal x) ≤ length (now out) ⌝ }
-    ensures { λ r. ⌜ Wrote (now (out .entry)) at (decimal x) (now (out .exit)) r ⌝ }
-{
-    if x < 10 {
-        return put_byte(out, at, glyph(x));
-    }
-    let next = put_decimal(out, at, x / 10);
-    put_byte(out, next, glyph(x % 10))
-}
-
-fn wide(x: u8) -> u32
-    ensures { λ r. ⌜ r ≡ x ⌝ }
-{
-    x as u32
-}
-
-// Each place in decimal behind a comma.
-fn put_commaed(out: &mut [u8], at: usize, places: &[u8]) -> usize
-    requires { ⌜ at + length (commaed (now places)) ≤ length (now out) ⌝ }
-    ensures { λ r. ⌜ Wrote (now (out .entry)) at (commaed (now (places .entry))) (now (out .exit)) r ⌝ }
-{
-    let mut next = at;
-    let mut i = 0;
-    while i < places.len() {
-        let number = put_byte(out, next, b',');
-        next = put_decimal(out, number, wide(places[i]));
-        i += 1;
-    }
-    next
-}
-
-// Places in decimal, joined by commas.
-fn put_joined(out: &mut [u8], at: usize, places: &[u8]) -> usize
-    requires { ⌜ at + length (joined (now places)) ≤ length (now out) ⌝ }
-    ensures { λ r. ⌜ Wrote (now (out .entry)) at (joined (now (places .entry))) (now (out .exit)) r ⌝ }
-{
-    if places.len() == 0 {
-        return at;
-    }
-    let next = put_decimal(out, at, wide(places[0]));
-    put_commaed(out, next, &places[1..])
-}
-
-fn put_number_line(out: &mut [u8], at: usize, key: &[u8], x: u32) -> usize
-    requires { ⌜ at + length (keyLine (now key) (decimal x)) ≤ length (now out) ⌝ }
-    ensures { λ r. ⌜ Wrote (now (out .entry)) at (keyLine (now (key .entry)) (decimal x)) (now (out .exit)) r ⌝ }
-{
-    let value = put_bytes(out, at, key);
-    let end = put_decimal(out, value, x);
-    put_byte(out, end, b'\n')
-}
-
-fn put_list_line(out: &mut [u8], at: usize, key: &[u8], places: &[u8]) -> usize
-    requires { ⌜ at + length (keyLine (now key) (joined (now places))) ≤ length (now out) ⌝ }
-    ensures { λ r. ⌜ Wrote (now (out .entry)) at (keyLine (now (key .entry)) (joined (now (places .entry)))) (now (out .exit)) r ⌝ }
-{
-    let value = put_bytes(out, at, key);
-    let end = put_joined(out, value, places);
-    put_byte(out, end, b'\n')
 }
 
 // The four lines that hold a number.

@@ -14,9 +14,9 @@ use Rattle.automata.specs.declared.Automaton.{Automaton}
 use Rattle.reader.specs.Line.{judge, judgeOne, lineOfOne, lineOfTwo, lineOfFour, firstOf, finish}
 use Rattle.reader.specs.Keys.{firstKey, acceptKey, movesKey, hardKey, softKey, weightKey}
 use Rattle.reader.specs.Blocks.{Filling, moveBlock, automatonBlock, hardBlock, softBlock, softStep, softBlocks}
-use Rattle.reader.specs.Text.{after, keyAt}
-use Rattle.reader.specs.declared.text.Number.{Number}
-use Rattle.reader.specs.declared.text.Number.the-variants.{Value, Bad}
+use Rattle.text.specs.Scan.{after, keyAt}
+use Rattle.text.specs.declared.read.Number.{Number}
+use Rattle.text.specs.declared.read.Number.the-variants.{Value, Bad}
 use Rattle.reader.specs.declared.line.Numbers.{Numbers}
 use Rattle.reader.specs.declared.line.Line.{Line}
 use Rattle.reader.specs.declared.line.Line.the-variants as line

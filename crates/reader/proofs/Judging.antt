@@ -8,16 +8,16 @@ use Prim.Native.Nat.{ℕ, _-_, _≤_, _<_, min}
 use native.Mathlib.Omega.{arith}
 use lib.Dec.{ltb}
 use borrow.Author.Tests.{ltb-true, ltb-false, le-ltb}
-use Rattle.reader.specs.Text.{valueOf, after, keyAt, cap}
+use Rattle.text.specs.Scan.{valueOf, after, keyAt, cap}
 use Rattle.reader.specs.Line.{within, both, judge, judgeOne, judgeTwo, judgeFour, lineOfOne, lineOfTwo, lineOfFour, firstOf, secondOf, thirdOf, fourthOf, OneRead, TwoRead, FourRead}
-use Rattle.reader.specs.declared.text.Number.{Number}
-use Rattle.reader.specs.declared.text.Number.the-variants.{Value, Bad}
+use Rattle.text.specs.declared.read.Number.{Number}
+use Rattle.text.specs.declared.read.Number.the-variants.{Value, Bad}
 use Rattle.reader.specs.declared.line.Numbers.{Numbers}
 use Rattle.reader.specs.declared.line.Cursor.{Cursor}
 use Rattle.reader.specs.declared.line.Fault.{Fault}
 use Rattle.reader.specs.declared.line.Line.{Line}
 use Rattle.reader.specs.declared.line.Line.the-variants as line
-use Rattle.reader.proofs.Decimals.{after-cap}
+use Rattle.text.proofs.Scans.{after-cap, value-cap}
 
 -- what a range test says
 pub within-both : (x low bound : ℕ) → within x low bound ≡ true → (low ≤ x) × (x < bound)
@@ -57,11 +57,6 @@ module _ (M x low bound : ℕ) (h : bound ≤ M) where
 
   held-within : within x low bound ≡ true → min x M ≡ x
   held-within e = omega (arith, within-both x low bound e .1)
-
-value-cap : (a : Number) → valueOf (cap a) ≡ min (valueOf a) 4294967295
-unfolding cap
-value-cap (Value v i) = refl
-value-cap Bad = refl
 
 module _ (s : List ℕ) (at : ℕ) where
   judge-cap : (last : Number) (fit : Bool) (xs : Numbers) → judge s at (cap last) fit xs ≡ judge s at last fit xs

@@ -1,5 +1,3 @@
-pub mod Decimals
-pub mod Newlines
 pub mod Judging
 pub mod Filling
 pub mod Steps

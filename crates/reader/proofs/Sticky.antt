@@ -6,15 +6,15 @@ use Prim.Native.Nat.{ℕ, zero, suc, _+_, _^_, _≤_}
 use native.Mathlib.Omega.{arith}
 use lib.ListN.{length}
 use lib.Dec.{ltb}
-use Rattle.reader.specs.Text.{lineAt}
+use Rattle.text.specs.Scan.{lineAt}
 use Rattle.reader.specs.Line.{choose, judge, judgeOne, judgeTwo, judgeFour, lineOfOne, lineOfTwo, lineOfFour, firstOf, top, finish}
 use Rattle.reader.specs.Keys.{tourKey, marksKey, placesKey, startKey, roadsKey, firstKey, acceptKey, movesKey, hardKey, rulesKey, softKey, weightKey}
 use Rattle.reader.specs.Blocks.{repeat, Filling, labelStep, labelBlock, roadStep, roadBlock, moveStep, moveBlock, automatonBlock, hardBlock, softBlock, softStep, softBlocks}
 use Rattle.reader.specs.Map.{mapOf}
 use Rattle.reader.specs.Reading.{draftOf}
 use Rattle.reader.specs.Outcome.{faultLine}
-use Rattle.reader.specs.declared.text.Number.{Number}
-use Rattle.reader.specs.declared.text.Number.the-variants.{Value, Bad}
+use Rattle.text.specs.declared.read.Number.{Number}
+use Rattle.text.specs.declared.read.Number.the-variants.{Value, Bad}
 use Rattle.reader.specs.declared.line.Numbers.{Numbers}
 use Rattle.reader.specs.declared.line.Fault.{Fault}
 use Rattle.reader.specs.declared.line.Fault.the-variants.{Form}
@@ -24,7 +24,7 @@ use Rattle.reader.specs.declared.block.LabelBlock.{LabelBlock}
 use Rattle.reader.specs.declared.block.RoadBlock.{RoadBlock}
 use Rattle.reader.specs.declared.block.MoveBlock.{MoveBlock}
 use Rattle.reader.specs.declared.block.SoftBlocks.{SoftBlocks}
-use Rattle.reader.proofs.Newlines.{line-most}
+use Rattle.text.proofs.Newlines.{line-most}
 
 -- what f keeps, repeating f keeps
 pub repeat-keeps : {S : Type 0} (P : S → Type 0) (f : S → S) → ((x : S) → P x → P (f x)) → (n : ℕ) (x : S) → P x → P (repeat n f x)

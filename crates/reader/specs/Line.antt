@@ -21,9 +21,9 @@ use mathlib.Core.List.{List}
 use Prim.Native.Nat.{ℕ, _-_, _≤_}
 use lib.ListN.{length}
 use lib.Dec.{ltb}
-use Rattle.reader.specs.Text.{valueOf, after, keyAt, lineAt}
-use Rattle.reader.specs.declared.text.Number.{Number}
-use Rattle.reader.specs.declared.text.Number.the-variants.{Value, Bad}
+use Rattle.text.specs.Scan.{valueOf, after, keyAt, lineAt}
+use Rattle.text.specs.declared.read.Number.{Number}
+use Rattle.text.specs.declared.read.Number.the-variants.{Value, Bad}
 use Rattle.reader.specs.declared.line.Numbers.{Numbers}
 use Rattle.reader.specs.declared.line.Line.{Line}
 use Rattle.reader.specs.declared.line.Line.the-variants as line

@@ -3,7 +3,6 @@ mod block;
 pub mod line;
 pub mod map;
 mod size;
-mod text;
 
 use block::hard_block;
 use block::label_count;

@@ -1,10 +1,10 @@
 //! Lines of a plan file: their numbers with the next cursor, or their fault. A line is read behind the line before it; once a
 //! line has a fault, every later one is that fault again, so a sequence of lines has no branch.
-use crate::text::Number;
-use crate::text::after;
-use crate::text::key_at;
-use crate::text::line_at;
-use crate::text::value_of;
+use text::read::Number;
+use text::read::after;
+use text::read::key_at;
+use text::read::line_at;
+use text::read::value_of;
 ghost use mathlib.Core.Path.{_≡_};
 ghost use Rattle.reader.specs.Line.{within, both, judge, judgeOne, judgeTwo, judgeFour, lineOfOne, lineOfTwo, lineOfFour, OneRead, TwoRead, FourRead, firstOf, secondOf, thirdOf, fourthOf, top, finish};
 

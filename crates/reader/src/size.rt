@@ -1,6 +1,6 @@
 //! The size of the product that a plan is searched in, exact up to 2,048.
-use crate::text::wide;
 use plan::Plan;
+use text::read::wide;
 ghost use mathlib.Core.Path.{_≡_};
 ghost use Prim.Native.Nat.{_*_, _≤_, min};
 ghost use Rattle.plan.specs.Size.{size};

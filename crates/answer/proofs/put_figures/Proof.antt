@@ -4,11 +4,12 @@ use Prim.Native.Nat.{ℕ, _+_, _≤_}
 use native.Mathlib.Omega.{arith}
 use borrow.Author.Needs.{needs}
 use lib.ListN.{length}
-use Rattle.answer.specs.Decimal.{decimal}
-use Rattle.answer.specs.Over.{Wrote, Left}
-use Rattle.answer.specs.Text.{keyLine, answerKey, lineKey, costKey, keptKey, figures}
+use Rattle.text.specs.Decimal.{decimal}
+use Rattle.text.specs.Over.{Wrote, Left}
+use Rattle.text.specs.KeyLine.{keyLine}
+use Rattle.answer.specs.Text.{answerKey, lineKey, costKey, keptKey, figures}
 use Rattle.answer.specs.declared.Answer.{Answer}
-use Rattle.answer.proofs.Overs.{left-start, left-room, left-next, left-last}
+use Rattle.text.proofs.Overs.{left-start, left-room, left-next, left-last}
 use Rattle.answer.proofs.put_figures.Statement.{statement}
 use Rattle.answer.proofs.put_figures.Tie as tie
 

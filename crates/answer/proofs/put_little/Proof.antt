@@ -8,9 +8,9 @@ use native.Mathlib.Omega.{arith}
 use borrow.Author.Needs.{needs}
 use lib.ListN.{length, set}
 use Rattle.answer.specs.Block.{little}
-use Rattle.answer.specs.Over.{Wrote, Left}
+use Rattle.text.specs.Over.{Wrote, Left}
 use Rattle.answer.proofs.Blocks.{length-little}
-use Rattle.answer.proofs.Overs.{left-start, left-store, left-end}
+use Rattle.text.proofs.Overs.{left-start, left-store, left-end}
 use Rattle.answer.proofs.put_little.Statement.{statement}
 use Rattle.answer.proofs.put_little.Tie as tie
 

@@ -4,8 +4,9 @@ use Prim.Native.Nat.{_+_, _≤_}
 use native.Mathlib.Omega.{arith}
 use borrow.Author.Needs.{needs}
 use lib.ListN.{length}
-use Rattle.answer.specs.Text.{joined, keyLine, runinKey, loopKey, figures, textOf}
-use Rattle.answer.proofs.Overs.{second-room, third-room, wrote-three, wrote-front}
+use Rattle.text.specs.KeyLine.{joined, keyLine}
+use Rattle.answer.specs.Text.{runinKey, loopKey, figures, textOf}
+use Rattle.text.proofs.Overs.{second-room, third-room, wrote-three, wrote-front}
 use Rattle.answer.proofs.Texts.{figures-length, text-length}
 use Rattle.answer.proofs.write_text.Statement.{statement}
 use Rattle.answer.proofs.write_text.Tie as tie

@@ -1,0 +1,6 @@
+pub mod Scans
+pub mod Newlines
+pub mod Overs
+pub mod Decimals
+pub mod KeyLines
+pub mod Figures

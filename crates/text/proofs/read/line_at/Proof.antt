@@ -1,0 +1,79 @@
+-- `line_at` meets its contract. The loop keeps that `line` and the line ends still to be passed make up the line's number;
+-- `line` is at most i + 1, so it does not wrap.
+use mathlib.Core.Path.{_≡_}
+use mathlib.Core.List.{List}
+use Prim.Native.Nat.{ℕ, _+_, _-_, _≤_}
+use native.Mathlib.Omega.{arith}
+use lib.ListN.{take, drop}
+use Rattle.text.specs.Scan.{newlines, lineAt}
+use Rattle.text.proofs.Newlines.{line-start, newlines-more, newlines-past, newlines-done}
+use borrow.Author.Needs.{needs}
+use Rattle.text.proofs.read.line_at.Statement.{statement}
+use Rattle.text.proofs.read.line_at.Tie as tie
+
+record Counted (s : List ℕ) (at i line : ℕ) : Type 0 where
+  pub within : i ≤ at
+  pub small : line ≤ i + 1
+  -- what is left to count makes up the line's number
+  pub same : lineAt s at ≡ line + newlines (take (at - i) (drop i s))
+
+abbrev Inv-loop : tie.InvT-loop
+Inv-loop s at line₀ i₀ line i = Counted s at i line
+
+abbrev μ-loop : tie.MeasureT-loop
+μ-loop s at line₀ i₀ line i = at - i
+
+loop-holds : tie.Need-loop-holds Inv-loop μ-loop
+loop-holds c = record { within = omega arith; small = omega arith; same = line-start _ _ }
+
+returns : tie.Need-returns Inv-loop μ-loop
+returns c =
+    let l = c .before .before .loop in
+    omega (arith, l .inv .same, newlines-past (c .before .before .before .before .args .s .now) (c .before .before .before .before .args .at) (l .i) (c .if1 .taken))
+
+shared-slice-read-newline : tie.Need-shared-slice-read-newline Inv-loop μ-loop
+shared-slice-read-newline c = search needs
+
+newline-requires : tie.Need-newline-requires Inv-loop μ-loop
+newline-requires c κs = search needs
+
+add-line : tie.Need-add-line Inv-loop μ-loop
+add-line c = search needs
+
+add-i : tie.Need-add-i Inv-loop μ-loop
+add-i c = search needs
+
+loop-less : tie.Need-loop-less Inv-loop μ-loop
+loop-less c = search needs
+
+loop-again : tie.Need-loop-again Inv-loop μ-loop
+loop-again c =
+    let s = c .before .before .before .before .before .before .args .s .now in
+    let l = c .before .before .before .before .loop in
+    let n = newlines-more s (c .before .before .before .before .before .before .args .at) (l .i) (c .before .before .before .loop-test .taken) (c .before .before .if1 .left) in
+    record {
+      within = omega arith;
+      small = omega (arith, l .inv .small);
+      same = omega (arith, l .inv .same, c .newline .ensures .0);
+    }
+
+returns-2 : tie.Need-returns-2 Inv-loop μ-loop
+returns-2 c =
+    let l = c .before .loop in
+    omega (arith, l .inv .same, newlines-done (c .before .before .before .args .s .now) (c .before .before .before .args .at) (l .i) (c .loop-test .left))
+
+pub line-at-spec : {M : Type 1} → statement M
+line-at-spec =
+    tie.close
+    (tie.spec
+    Inv-loop
+    μ-loop
+    loop-holds
+    returns
+    shared-slice-read-newline
+    newline-requires
+    add-line
+    add-i
+    loop-less
+    loop-again
+    returns-2)

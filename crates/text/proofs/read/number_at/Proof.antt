@@ -1,0 +1,126 @@
+-- `number_at` meets its contract. The loop keeps, of the digits passed, their count and their value held at 2^32 - 1; at the
+-- first byte that is no digit, and at the end of the text, `numberAt` is computed from both.
+use mathlib.Core.Path.{_≡_, sym, _∙_}
+use mathlib.Core.List.{List}
+use Prim.Native.Nat.{ℕ, _+_, _-_, _≤_, min}
+use native.Mathlib.Omega.{arith}
+use lib.ListN.{length, drop}
+use borrow.Author.Tests.{not-true, not-false}
+use Rattle.text.specs.Scan.{digitCount, value}
+use Rattle.text.proofs.Scans.{digit-least, none-past, none-here, value-here, digit-count-more, held-value, ends-text, ends-otherwise, not-canonical, number-read}
+use borrow.Author.Needs.{needs}
+use Rattle.text.proofs.read.number_at.Statement.{statement}
+use Rattle.text.proofs.read.number_at.Tie as tie
+
+record Scanned (s : List ℕ) (at i v : ℕ) : Type 0 where
+  pub from : at ≤ i
+  -- the bytes passed are digits
+  pub count : digitCount (drop at s) ≡ (i - at) + digitCount (drop i s)
+  -- v is their value, held
+  pub held : min (value 0 (drop at s)) 4294967295 ≡ min (value v (drop i s)) 4294967295
+  pub small : v ≤ 4294967295
+
+abbrev Inv-loop : tie.InvT-loop
+Inv-loop s at end i₀ v₀ i v = Scanned s at i v
+
+abbrev μ-loop : tie.MeasureT-loop
+μ-loop s at end i₀ v₀ i v = length s - i
+
+loop-holds : tie.Need-loop-holds Inv-loop μ-loop
+loop-holds c = search needs
+
+shared-slice-read-b : tie.Need-shared-slice-read-b Inv-loop μ-loop
+shared-slice-read-b c = search needs
+
+digit-requires : tie.Need-digit-requires Inv-loop μ-loop
+digit-requires c κs = search needs
+
+returns : tie.Need-returns Inv-loop μ-loop
+returns c =
+    let s = c .before .before .before .before .before .before .before .args .s .now in
+    let l = c .before .before .before .before .before .loop in
+    let h = c .before .before .before .before .loop-test .taken in
+    let n = none-here s (l .i) h (sym (c .before .before .digit .ensures) ∙ not-true _ (c .before .if1 .taken)) in
+    ends-otherwise s _ (l .i) _ (l .inv .from) (omega (arith, l .inv .count)) h (c .if2 .taken)
+
+shared-slice-read-canonical : tie.Need-shared-slice-read-canonical Inv-loop μ-loop
+shared-slice-read-canonical c = search needs
+
+sub-canonical : tie.Need-sub-canonical Inv-loop μ-loop
+sub-canonical c = search needs
+
+canonical-requires : tie.Need-canonical-requires Inv-loop μ-loop
+canonical-requires c κs = search needs
+
+add-t17 : tie.Need-add-t17 Inv-loop μ-loop
+add-t17 c = search needs
+
+returns-2 : tie.Need-returns-2 Inv-loop μ-loop
+returns-2 c =
+    let s = c .before .before .before .before .before .before .before .before .before .before .args .s .now in
+    let l = c .before .before .before .before .before .before .before .before .loop in
+    let h = c .before .before .before .before .before .before .before .loop-test .taken in
+    let d = sym (c .before .before .before .before .before .digit .ensures) ∙ not-true _ (c .before .before .before .before .if1 .taken) in
+    let n = none-here s (l .i) h d in
+    let v = value-here s (l .i) h d (l .v) in
+    number-read s _ (l .i) _ (l .inv .from) (omega (arith, l .inv .count)) h (c .before .before .before .if2 .left) (sym (c .before .canonical .ensures) ∙ c .if3 .taken) _
+    (omega (arith, l .inv .held, l .inv .small))
+
+returns-3 : tie.Need-returns-3 Inv-loop μ-loop
+returns-3 c =
+    let s = c .before .before .before .before .before .before .before .before .before .before .args .s .now in
+    let l = c .before .before .before .before .before .before .before .before .loop in
+    let h = c .before .before .before .before .before .before .before .loop-test .taken in
+    let n = none-here s (l .i) h (sym (c .before .before .before .before .before .digit .ensures) ∙ not-true _ (c .before .before .before .before .if1 .taken)) in
+    not-canonical s _ (l .i) _ (l .inv .from) (omega (arith, l .inv .count)) h (c .before .before .before .if2 .left) (sym (c .before .canonical .ensures) ∙ c .if3 .left)
+
+append-digit-requires : tie.Need-append-digit-requires Inv-loop μ-loop
+append-digit-requires c κs = digit-least _ (sym (c .before .digit .ensures) ∙ not-false _ (c .if1 .left))
+
+add-i : tie.Need-add-i Inv-loop μ-loop
+add-i c = search needs
+
+loop-less : tie.Need-loop-less Inv-loop μ-loop
+loop-less c = search needs
+
+loop-again : tie.Need-loop-again Inv-loop μ-loop
+loop-again c =
+    let s = c .before .before .before .before .before .before .before .args .s .now in
+    let l = c .before .before .before .before .before .loop in
+    let h = c .before .before .before .before .loop-test .taken in
+    let d = sym (c .before .before .digit .ensures) ∙ not-false _ (c .before .if1 .left) in
+    record {
+      from = omega (arith, l .inv .from);
+      count = omega (arith, l .inv .count, l .inv .from, digit-count-more s (l .i) h d);
+      held = l .inv .held ∙ held-value s (l .i) h d 4294967295 (l .v) ∙ rw (← c .append-digit .ensures);
+      small = omega (arith, c .append-digit .ensures);
+    }
+
+returns-4 : tie.Need-returns-4 Inv-loop μ-loop
+returns-4 c =
+    let s = c .before .before .before .args .s .now in
+    let l = c .before .loop in
+    let n = none-past s (l .i) (c .loop-test .left) in
+    ends-text s _ (l .i) _ (l .inv .from) (omega (arith, l .inv .count)) (c .loop-test .left)
+
+pub number-at-spec : {M : Type 1} → statement M
+number-at-spec =
+    tie.close
+    (tie.spec
+    Inv-loop
+    μ-loop
+    loop-holds
+    shared-slice-read-b
+    digit-requires
+    returns
+    shared-slice-read-canonical
+    sub-canonical
+    canonical-requires
+    add-t17
+    returns-2
+    returns-3
+    append-digit-requires
+    add-i
+    loop-less
+    loop-again
+    returns-4)

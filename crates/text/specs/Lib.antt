@@ -1,0 +1,4 @@
+pub mod Scan
+pub mod Over
+pub mod Decimal
+pub mod KeyLine
