@@ -3,21 +3,18 @@
 --   decimal-more   == any other is its tenth and then its last digit
 --   decimal-longer == and has one digit more than that
 --   decimal-each   == what holds below ten, and of a number if of its tenth, holds of each
---   reads-decimal  == the digits of a number say it
 --   decimal-some   == there is a digit
 --   decimal-lead   == the first digit is no 0, but for 0 itself
---   Digit b        == the byte b is a digit
---   decimal-digit  == every byte is a digit
 --   decimal-length == a number below 10 ^ k has at most k digits
-use mathlib.Core.Path.{_≡_, refl, sym, ap, _∙_}
-use mathlib.Core.List.{List, [], _∷_, _++_}
+use mathlib.Core.Path.{_≡_, sym, ap, _∙_}
+use mathlib.Core.List.{[], _∷_, _++_}
 use Prim.Native.Nat.{ℕ, zero, suc, _+_, _*_, _/_, _%_, _^_, _≤_, _<_}
 use native.Mathlib.Decide.{decLt}
-use native.Mathlib.Nat.{div-add-mod', div-lt-iff-lt-mul, mod-lt, pow-zero, pow-suc}
+use native.Mathlib.Nat.{div-lt-iff-lt-mul, pow-zero, pow-suc}
 use native.Mathlib.Omega.{arith}
 use borrow.Author.Tests.{lt-ltb, le-ltb}
 use lib.ListN.{length, getD, length-append, List·getD-append}
-use Rattle.text.specs.Decimal.{digitsOf, decimal, reads}
+use Rattle.text.specs.Decimal.{digitsOf, decimal}
 
 digits-small : (k n : ℕ) → n < 10 → digitsOf (suc k) n ≡ (48 + n) ∷ []
 unfolding digitsOf
@@ -64,23 +61,6 @@ module _ (P : ℕ → Type 0) (small : (n : ℕ) → n < 10 → P n) (more : (n 
   pub decimal-each : (n : ℕ) → P n
   decimal-each n = each-below (suc n) n (omega arith)
 
-reads-append : (acc : ℕ) (s t : List ℕ) → reads acc (s ++ t) ≡ reads (reads acc s) t
-unfolding reads
-reads-append acc [] t = refl
-reads-append acc (b ∷ s) t = reads-append _ s t
-
-reads-one : (acc d : ℕ) → reads acc ((48 + d) ∷ []) ≡ acc * 10 + d
-unfolding reads
-reads-one acc d = omega arith
-
-pub reads-decimal : (n : ℕ) → reads 0 (decimal n) ≡ n
-reads-decimal =
-    decimal-each (λ n. reads 0 (decimal n) ≡ n)
-    (λ n h. rw (decimal-small n h, reads-one 0 n) (omega arith))
-    (λ n h tenth.
-    rw (decimal-more n h, reads-append 0 (decimal (n / 10)), tenth, reads-one (n / 10) (n % 10))
-    (div-add-mod' n 10))
-
 pub decimal-some : (n : ℕ) → 0 < length (decimal n)
 decimal-some =
     decimal-each (λ n. 0 < length (decimal n))
@@ -94,25 +74,6 @@ decimal-lead =
     (λ n h tenth some.
     rw (decimal-more n h, List·getD-append (decimal (n / 10)) ((48 + n % 10) ∷ []) 0 0 (decimal-some (n / 10)))
     (tenth (omega arith)))
-
-abbrev pub Digit : ℕ → Type 0
-Digit b = (48 ≤ b) × (b < 58)
-
-pub decimal-digit : (n i : ℕ) → i < length (decimal n) → Digit (getD (decimal n) i 0)
-decimal-digit =
-    decimal-each (λ n. (i : ℕ) → i < length (decimal n) → Digit (getD (decimal n) i 0))
-    (λ n h i. rw (decimal-small n h) (one n h i))
-    (λ n h tenth i. rw (decimal-more n h) (last (decimal (n / 10)) (n % 10) (mod-lt n (omega arith)) tenth i))
-  where
-    one : (d : ℕ) → d < 10 → (i : ℕ) → i < length ((48 + d) ∷ []) → Digit (getD ((48 + d) ∷ []) i 0)
-    one d h zero below = (omega arith, omega arith)
-    one d h (suc i) below = absurd (omega arith)
-
-    last : (s : List ℕ) (d : ℕ) → d < 10 → ((i : ℕ) → i < length s → Digit (getD s i 0))
-        → (i : ℕ) → i < length (s ++ ((48 + d) ∷ [])) → Digit (getD (s ++ ((48 + d) ∷ [])) i 0)
-    last [] d h all i below = one d h i below
-    last (b ∷ s) d h all zero below = all 0 (omega arith)
-    last (b ∷ s) d h all (suc i) below = last s d h (λ j jb. all (suc j) (omega arith)) i (omega arith)
 
 pub decimal-length : (k n : ℕ) → 0 < k → n < 10 ^ k → length (decimal n) ≤ k
 decimal-length zero n some h = absurd (omega arith)

@@ -2,5 +2,6 @@ pub mod Scans
 pub mod Newlines
 pub mod Overs
 pub mod Decimals
+pub mod ReadBack
 pub mod KeyLines
 pub mod Figures

@@ -1,10 +1,9 @@
 -- Numbers as text.
 --   digitsOf k n  == the decimal digits of n as bytes, the highest first, k steps of division allowed
 --   decimal n     == n in decimal without a leading zero; 0 itself is one digit
---   reads acc s   == the number that the digits s say behind a number acc
 use mathlib.Core.Bool.{cond}
 use mathlib.Core.List.{List, [], _∷_, _++_}
-use Prim.Native.Nat.{ℕ, zero, suc, _+_, _-_, _*_, _/_, _%_}
+use Prim.Native.Nat.{ℕ, zero, suc, _+_, _/_, _%_}
 use lib.Dec.{ltb}
 
 unfoldable pub digitsOf : ℕ → ℕ → List ℕ
@@ -14,7 +13,3 @@ digitsOf (suc k) n = cond (ltb n 10) ((48 + n) ∷ []) (digitsOf k (n / 10) ++ (
 -- a number has no more digits than its own value and one
 unfoldable pub decimal : ℕ → List ℕ
 decimal n = digitsOf (suc n) n
-
-unfoldable pub reads : ℕ → List ℕ → ℕ
-reads acc [] = acc
-reads acc (b ∷ s) = reads (acc * 10 + (b - 48)) s
