@@ -1,5 +1,4 @@
--- The text of an answer in its buffer, and prefixes of buffers that hold what was written to their front.
---   prefix-long  == so long a prefix has so many entries
+-- The text of an answer in its buffer.
 --   text-printed == an answer that is told, with its text written, is printed
 --   printed-le   == the text is no longer than the buffer
 --   never-5      == with buffers of 2,048 and 20,480 bytes the answer that is printed is never refusal 5
@@ -8,16 +7,13 @@ use mathlib.Core.List.{List, _++_}
 use mathlib.Core.Logic.{_≢_}
 use Prim.Native.Nat.{ℕ, _≤_}
 use native.Mathlib.Omega.{arith}
-use lib.ListN.{length, take, drop, length-append, length-take}
+use lib.ListN.{length, take, drop, length-append}
 use Rattle.reader.specs.Reading.{readPlan}
 use Rattle.answer.specs.Text.{textOf}
 use Rattle.answer.specs.declared.Answer.{Answer}
 use Rattle.planner.specs.Promise.{verdict, Told}
 use Rattle.planner.proofs.Bounds.{never-short}
 use Rattle.console.specs.Printed.{Printed}
-
-pub prefix-long : (n : ℕ) (xs : List ℕ) → n ≤ length xs → n ≡ length (take n xs)
-prefix-long n xs h = simp length-take (omega arith)
 
 module _ (plan runin loop runin′ loop′ out out′ : List ℕ) (n : ℕ) where
   pub text-printed : (a : Answer) → Told (verdict (readPlan plan .outcome) (readPlan plan .plan) (length runin) (length loop)) runin loop runin′ loop′ a

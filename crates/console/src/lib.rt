@@ -1,6 +1,5 @@
 //! Plan files answered in text.
 use answer::write_text;
-use libc::STDIN_FILENO;
 use libc::STDOUT_FILENO;
 use planner::file_answer;
 ghost use Prim.Native.Nat.{_+_, _*_, _≤_};
@@ -19,29 +18,23 @@ pub fn answer_text(plan: &[u8], runin: &mut [u8], cycle: &mut [u8], out: &mut [u
     write_text(a, &runin[..stem], &cycle[..turn], out)
 }
 
-// Reads a plan file, as far as `plan` has room, and prints its answer.
-fn answer_on(plan: &mut [u8], runin: &mut [u8], cycle: &mut [u8], out: &mut [u8])
+// Prints the answer to a plan file, by way of the buffers.
+fn print_on(plan: &[u8], runin: &mut [u8], cycle: &mut [u8], out: &mut [u8])
     requires { ⌜ 128 + 4 * (length (now runin) + length (now cycle)) ≤ length (now out) ⌝ }
 {
-    let n = io::read_full(STDIN_FILENO, plan);
-    let size = answer_text(&plan[..n], runin, cycle, out);
+    let size = answer_text(plan, runin, cycle, out);
     io::write_all(STDOUT_FILENO, &out[..size]);
 }
 
 // Lends the buffers as slices. Run-in and loop have room for every tour, so that refusal 5 is never given.
-fn answer_in(
-    plan: &mut [u8],
-    runin: &mut [u8; 2048],
-    cycle: &mut [u8; 20480],
-    out: &mut [u8; 90240],
-) {
-    answer_on(plan, runin, cycle, out);
+fn print_in(plan: &[u8], runin: &mut [u8; 2048], cycle: &mut [u8; 20480], out: &mut [u8; 90240]) {
+    print_on(plan, runin, cycle, out);
 }
 
-// Fills `plan` from standard input, as far as that goes, and prints what the planner answers to it.
-pub fn answer_input(plan: &mut [u8]) {
+// Prints what the planner answers to a plan file.
+pub fn print_answer(plan: &[u8]) {
     let mut runin = [0u8; 2048];
     let mut cycle = [0u8; 20480];
     let mut out = [0u8; 90240];
-    answer_in(plan, &mut runin, &mut cycle, &mut out);
+    print_in(plan, &mut runin, &mut cycle, &mut out);
 }

@@ -1,7 +1,8 @@
 -- `answer_text` meets its contract: the lengths that the answer tells lie within the buffers (`told-fits`), so its places are
 -- prefixes of these, and their text has room.
-use Rattle.console.proofs.Printing.{prefix-long, text-printed}
+use Rattle.console.proofs.Printing.{text-printed}
 use Rattle.planner.proofs.Verdicts.{told-fits}
+use Rattle.io.proofs.Counting.{front}
 use native.Mathlib.Omega.{arith}
 use lib.ListN.{length-take}
 use borrow.Author.Needs.{needs}
@@ -28,13 +29,13 @@ slice-reshare-prefix-write-text : tie.Need-slice-reshare-prefix-write-text
 slice-reshare-prefix-write-text c = let f = told-fits _ _ _ _ _ _ (answered c .file-answer .ensures) in omega (arith, f .0, f .1)
 
 slice-aggregate-write-text : tie.Need-slice-aggregate-write-text
-slice-aggregate-write-text c = let f = told-fits _ _ _ _ _ _ (answered (c .before) .file-answer .ensures) in prefix-long _ _ (omega (arith, f .0, f .1))
+slice-aggregate-write-text c = let f = told-fits _ _ _ _ _ _ (answered (c .before) .file-answer .ensures) in front _ _ (omega (arith, f .0, f .1))
 
 slice-reshare-prefix-write-text-2 : tie.Need-slice-reshare-prefix-write-text-2
 slice-reshare-prefix-write-text-2 c = let f = told-fits _ _ _ _ _ _ (answered (c .before) .file-answer .ensures) in omega (arith, f .0, f .1)
 
 slice-aggregate-write-text-2 : tie.Need-slice-aggregate-write-text-2
-slice-aggregate-write-text-2 c = let f = told-fits _ _ _ _ _ _ (answered (c .before .before) .file-answer .ensures) in prefix-long _ _ (omega (arith, f .0, f .1))
+slice-aggregate-write-text-2 c = let f = told-fits _ _ _ _ _ _ (answered (c .before .before) .file-answer .ensures) in front _ _ (omega (arith, f .0, f .1))
 
 write-text-requires : tie.Need-write-text-requires
 write-text-requires c κs =
