@@ -4,10 +4,30 @@ use borrow.Author.Needs.{needs}
 use Rattle.planner.proofs.plan_in_arrays.Statement.{statement}
 use Rattle.planner.proofs.plan_in_arrays.Tie as tie
 
+abbrev start : tie.After-plan-in-tables-arg11 → tie.Start
+start c = c .before .before .before .before .before .before .before .before .before .before .before .before .before
+
 plan-in-tables-requires : tie.Need-plan-in-tables-requires
 plan-in-tables-requires c κs =
-    let s = c .before .before .before .before .before .before .before .before .before .before .before .before .before in
-    (s .pre .0, record { net-long = omega (arith, c .before .before .before .before .before .before .before .before .before .before .plan-in-tables-arg .given); net-blank = s .pre .1; colours-long = omega (arith, c .before .before .before .before .before .before .before .before .before .plan-in-tables-arg2 .given); live-long = omega (arith, c .before .before .before .before .before .before .before .before .plan-in-tables-arg3 .given); inside-long = omega (arith, c .before .before .before .before .before .before .before .plan-in-tables-arg4 .given); rank-long = omega (arith, c .before .before .before .before .before .before .plan-in-tables-arg5 .given); next-long = omega (arith, c .before .before .before .before .before .plan-in-tables-arg6 .given); held-long = omega (arith, c .before .before .before .before .plan-in-tables-arg7 .given); queue-long = omega (arith, c .before .before .before .plan-in-tables-arg8 .given); order-long = omega (arith, c .before .before .plan-in-tables-arg9 .given); live-blank = s .pre .2; inside-blank = s .pre .3; rank-blank = s .pre .4 }, s .pre .5)
+    let p = start c .pre in (
+      p .0,
+      record {
+        net-long = omega arith;
+        net-blank = p .1;
+        colours-long = omega arith;
+        live-long = omega arith;
+        inside-long = omega arith;
+        rank-long = omega arith;
+        next-long = omega arith;
+        held-long = omega arith;
+        queue-long = omega arith;
+        order-long = omega arith;
+        live-blank = p .2;
+        inside-blank = p .3;
+        rank-blank = p .4;
+      },
+      p .5,
+    )
 
 same-length : tie.Need-same-length
 same-length c = search needs

@@ -4,8 +4,11 @@ use borrow.Author.Needs.{needs}
 use Rattle.planner.proofs.plan_in_room.Statement.{statement}
 use Rattle.planner.proofs.plan_in_room.Tie as tie
 
+abbrev start : tie.After-plan-in-arrays-arg2 → tie.Start
+start c = c .before .before .before .before .before .before .before .before .before .before .before .before .before
+
 plan-in-arrays-requires : tie.Need-plan-in-arrays-requires
-plan-in-arrays-requires c κs = let s = c .before .before .before .before .before .before .before .before .before .before .before .before .before in (s .pre .0, zeros-blank 699415, zeros-blank 2048, zeros-blank 2048, zeros-blank 2048, s .pre .1)
+plan-in-arrays-requires c κs = let p = start c .pre in (p .0, zeros-blank 699415, zeros-blank 2048, zeros-blank 2048, zeros-blank 2048, p .1)
 
 same-length : tie.Need-same-length
 same-length c = search needs

@@ -13,6 +13,9 @@ use Rattle.planner.proofs.tour_answer.Tie as tie
 abbrev cost-answer : ℕ → ℕ → ℕ → ℕ → Answer
 cost-answer k s l x = record { number = 0; line = 0; cost = x; kept = k; count = ones k; stem = s; cycle = l }
 
+abbrev start : tie.After-cost-of → tie.Start
+start c = c .before .before .before .before
+
 cast-cost-of : tie.Need-cast-cost-of
 cast-cost-of c = search needs
 
@@ -20,7 +23,7 @@ cost-of-requires : tie.Need-cost-of-requires
 cost-of-requires c κs = search needs
 
 cast-t10 : tie.Need-cast-t10
-cast-t10 c = omega (arith, c .cost-of .ensures .0, cost-small (c .before .before .before .before .args .p) (c .before .before .before .before .pre .0) (c .before .before .before .before .args .mask / 2))
+cast-t10 c = let s = start c in omega (arith, c .cost-of .ensures .0, cost-small (s .args .p) (s .pre .0) (s .args .mask / 2))
 
 cast-t11 : tie.Need-cast-t11
 cast-t11 c = search needs
@@ -35,7 +38,7 @@ cast-t15 : tie.Need-cast-t15
 cast-t15 c = search needs
 
 returns : tie.Need-returns
-returns c = let a = c .before .before .before .before .args in ap (cost-answer (a .mask / 2) (a .stem) (a .cycle)) (c .cost-of .ensures .0)
+returns c = let a = start c .args in ap (cost-answer (a .mask / 2) (a .stem) (a .cycle)) (c .cost-of .ensures .0)
 
 pub tour-answer-spec : {M : Type 1} → statement M
 tour-answer-spec =
