@@ -57,61 +57,69 @@ module _ (a : Answer) (b : List ℕ) (room : length (figures a) ≤ length b) wh
         all : {b₄ : List ℕ} {n₄ : ℕ} → Wrote b₃ n₃ (kept a) b₄ n₄ → Wrote b 0 (figures a) b₄ n₄
         all d₄ = left-last from-kept d₄
 
+-- the places that the answers refer to: where the function starts, and after each line but the last
+abbrev start : tie.After-put-number-line-arg2 → tie.Start
+start c = c .before .before .before
+
+abbrev numbered : tie.After-put-number-line-arg4 → tie.After-put-number-line
+numbered c = c .before .before .before .before
+
+abbrev lined : tie.After-put-number-line-arg6 → tie.After-put-number-line2
+lined c = c .before .before .before .before
+
+abbrev costed : tie.After-put-number-line-arg8 → tie.After-put-number-line3
+costed c = c .before .before .before .before
+
 slice-aggregate-put-number-line : tie.Need-slice-aggregate-put-number-line
 slice-aggregate-put-number-line c = search needs
 
 put-number-line-requires : tie.Need-put-number-line-requires
-put-number-line-requires c κs =
-    let s = c .before .before .before in
-    first-room (s .args .a) (s .args .out .now) (s .pre)
+put-number-line-requires c κs = let s = start c in first-room (s .args .a) (s .args .out .now) (s .pre)
 
 slice-aggregate-put-number-line-2 : tie.Need-slice-aggregate-put-number-line-2
 slice-aggregate-put-number-line-2 c = search needs
 
 put-number-line-requires-2 : tie.Need-put-number-line-requires-2
 put-number-line-requires-2 c κs =
-    let c₁ = c .before .before .before .before in
-    let s = c₁ .before .before .before .before in
-    second-room (s .args .a) (s .args .out .now) (s .pre) (c₁ .put-number-line .ensures)
+    let n = numbered c in
+    let s = start (n .before) in
+    second-room (s .args .a) (s .args .out .now) (s .pre) (n .put-number-line .ensures)
 
 slice-aggregate-put-number-line-3 : tie.Need-slice-aggregate-put-number-line-3
 slice-aggregate-put-number-line-3 c = search needs
 
 put-number-line-requires-3 : tie.Need-put-number-line-requires-3
 put-number-line-requires-3 c κs =
-    let c₂ = c .before .before .before .before in
-    let c₁ = c₂ .before .before .before .before .before in
-    let s = c₁ .before .before .before .before in
-    third-room (s .args .a) (s .args .out .now) (s .pre) (c₁ .put-number-line .ensures)
-    (c₂ .put-number-line2 .ensures)
+    let l = lined c in
+    let n = numbered (l .before) in
+    let s = start (n .before) in
+    third-room (s .args .a) (s .args .out .now) (s .pre) (n .put-number-line .ensures) (l .put-number-line2 .ensures)
 
 slice-aggregate-put-number-line-4 : tie.Need-slice-aggregate-put-number-line-4
 slice-aggregate-put-number-line-4 c = search needs
 
 put-number-line-requires-4 : tie.Need-put-number-line-requires-4
 put-number-line-requires-4 c κs =
-    let c₃ = c .before .before .before .before in
-    let c₂ = c₃ .before .before .before .before .before in
-    let c₁ = c₂ .before .before .before .before .before in
-    let s = c₁ .before .before .before .before in
-    fourth-room (s .args .a) (s .args .out .now) (s .pre) (c₁ .put-number-line .ensures)
-    (c₂ .put-number-line2 .ensures)
-    (c₃ .put-number-line3 .ensures)
+    let o = costed c in
+    let l = lined (o .before) in
+    let n = numbered (l .before) in
+    let s = start (n .before) in
+    fourth-room (s .args .a) (s .args .out .now) (s .pre) (n .put-number-line .ensures) (l .put-number-line2 .ensures)
+    (o .put-number-line3 .ensures)
 
 same-length : tie.Need-same-length
 same-length c = search needs
 
 returns : tie.Need-returns
 returns c =
-    let c₄ = c .before .before in
-    let c₃ = c₄ .before .before .before .before .before in
-    let c₂ = c₃ .before .before .before .before .before in
-    let c₁ = c₂ .before .before .before .before .before in
-    let s = c₁ .before .before .before .before in
-    all (s .args .a) (s .args .out .now) (s .pre) (c₁ .put-number-line .ensures)
-    (c₂ .put-number-line2 .ensures)
-    (c₃ .put-number-line3 .ensures)
-    (c₄ .put-number-line4 .ensures)
+    let k = c .before .before in
+    let o = costed (k .before) in
+    let l = lined (o .before) in
+    let n = numbered (l .before) in
+    let s = start (n .before) in
+    all (s .args .a) (s .args .out .now) (s .pre) (n .put-number-line .ensures) (l .put-number-line2 .ensures)
+    (o .put-number-line3 .ensures)
+    (k .put-number-line4 .ensures)
 
 pub put-figures-spec : {M : Type 1} → statement M
 put-figures-spec =

@@ -11,17 +11,27 @@ use Rattle.answer.proofs.Texts.{figures-length, text-length}
 use Rattle.answer.proofs.write_text.Statement.{statement}
 use Rattle.answer.proofs.write_text.Tie as tie
 
-figures-short : (c : tie.After-slice-known) → length (figures (c .before .before .before .args .a)) ≤ 66
+-- the places that the answers refer to: where the function starts, and after the first two parts
+abbrev start : tie.After-slice-known → tie.Start
+start c = c .before .before .before
+
+abbrev figured : tie.After-put-list-line-arg2 → tie.After-put-figures
+figured c = c .before .before .before .before
+
+abbrev listed : tie.After-put-list-line-arg4 → tie.After-put-list-line
+listed c = c .before .before .before .before
+
+figures-short : (c : tie.After-slice-known) → length (figures (start c .args .a)) ≤ 66
 figures-short c =
-    let s = c .before .before .before in
+    let s = start c in
     figures-length (s .args .a) (omega (arith, s .good .0)) (omega (arith, s .good .0)) (omega (arith, s .good .0))
     (omega (arith, s .good .0))
 
 room : (c : tie.After-slice-known)
-    → let a = c .before .before .before .args in
+    → let a = start c .args in
     0 + length (textOf (a .a) (a .runin .now) (a .cycle .now)) ≤ length (a .out .now)
 room c =
-    let s = c .before .before .before in
+    let s = start c in
     let a = s .args in
     omega (
       arith,
@@ -32,7 +42,7 @@ room c =
     )
 
 put-figures-requires : tie.Need-put-figures-requires
-put-figures-requires c κs = omega (arith, figures-short (c .before), c .before .before .before .before .pre)
+put-figures-requires c κs = omega (arith, figures-short (c .before), start (c .before) .pre)
 
 slice-aggregate-put-list-line : tie.Need-slice-aggregate-put-list-line
 slice-aggregate-put-list-line c = search needs
@@ -40,12 +50,11 @@ slice-aggregate-put-list-line c = search needs
 put-list-line-requires : tie.Need-put-list-line-requires
 unfolding textOf
 put-list-line-requires c κs =
-    let c₁ = c .before .before .before .before in
-    let k = c₁ .before .before in
-    let a = k .before .before .before .args in
-    second-room (figures (a .a)) (keyLine runinKey (joined (a .runin .now))) (keyLine loopKey (joined (a .cycle .now)))
-    (room k)
-    (c₁ .put-figures .ensures)
+    let f = figured c in
+    let k = f .before .before in
+    let a = start k .args in
+    second-room (figures (a .a)) (keyLine runinKey (joined (a .runin .now))) (keyLine loopKey (joined (a .cycle .now))) (room k)
+    (f .put-figures .ensures)
 
 slice-aggregate-put-list-line-2 : tie.Need-slice-aggregate-put-list-line-2
 slice-aggregate-put-list-line-2 c = search needs
@@ -53,14 +62,13 @@ slice-aggregate-put-list-line-2 c = search needs
 put-list-line-requires-2 : tie.Need-put-list-line-requires-2
 unfolding textOf
 put-list-line-requires-2 c κs =
-    let c₂ = c .before .before .before .before in
-    let c₁ = c₂ .before .before .before .before .before in
-    let k = c₁ .before .before in
-    let a = k .before .before .before .args in
-    third-room (figures (a .a)) (keyLine runinKey (joined (a .runin .now))) (keyLine loopKey (joined (a .cycle .now)))
-    (room k)
-    (c₁ .put-figures .ensures)
-    (c₂ .put-list-line .ensures)
+    let l = listed c in
+    let f = figured (l .before) in
+    let k = f .before .before in
+    let a = start k .args in
+    third-room (figures (a .a)) (keyLine runinKey (joined (a .runin .now))) (keyLine loopKey (joined (a .cycle .now))) (room k)
+    (f .put-figures .ensures)
+    (l .put-list-line .ensures)
 
 same-length : tie.Need-same-length
 same-length c = search needs
@@ -68,17 +76,16 @@ same-length c = search needs
 returns : tie.Need-returns
 unfolding textOf
 returns c =
-    let c₃ = c .before .before in
-    let c₂ = c₃ .before .before .before .before .before in
-    let c₁ = c₂ .before .before .before .before .before in
-    let k = c₁ .before .before in
-    let a = k .before .before .before .args in
+    let e = c .before .before in
+    let l = listed (e .before) in
+    let f = figured (l .before) in
+    let k = f .before .before in
+    let a = start k .args in
     wrote-front
-    (wrote-three (figures (a .a)) (keyLine runinKey (joined (a .runin .now))) (keyLine loopKey (joined (a .cycle .now)))
-    (room k)
-    (c₁ .put-figures .ensures)
-    (c₂ .put-list-line .ensures)
-    (c₃ .put-list-line2 .ensures))
+    (wrote-three (figures (a .a)) (keyLine runinKey (joined (a .runin .now))) (keyLine loopKey (joined (a .cycle .now))) (room k)
+    (f .put-figures .ensures)
+    (l .put-list-line .ensures)
+    (e .put-list-line2 .ensures))
 
 pub write-text-spec : {M : Type 1} → statement M
 write-text-spec =
