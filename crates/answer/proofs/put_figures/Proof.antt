@@ -81,8 +81,7 @@ slice-aggregate-put-number-line-2 c = search needs
 
 put-number-line-requires-2 : tie.Need-put-number-line-requires-2
 put-number-line-requires-2 c κs =
-    let n = numbered c in
-    let s = start (n .before) in
+    let n = numbered c in let s = start (n .before) in
     second-room (s .args .a) (s .args .out .now) (s .pre) (n .put-number-line .ensures)
 
 slice-aggregate-put-number-line-3 : tie.Need-slice-aggregate-put-number-line-3
@@ -90,9 +89,7 @@ slice-aggregate-put-number-line-3 c = search needs
 
 put-number-line-requires-3 : tie.Need-put-number-line-requires-3
 put-number-line-requires-3 c κs =
-    let l = lined c in
-    let n = numbered (l .before) in
-    let s = start (n .before) in
+    let l = lined c in let n = numbered (l .before) in let s = start (n .before) in
     third-room (s .args .a) (s .args .out .now) (s .pre) (n .put-number-line .ensures) (l .put-number-line2 .ensures)
 
 slice-aggregate-put-number-line-4 : tie.Need-slice-aggregate-put-number-line-4
@@ -100,10 +97,7 @@ slice-aggregate-put-number-line-4 c = search needs
 
 put-number-line-requires-4 : tie.Need-put-number-line-requires-4
 put-number-line-requires-4 c κs =
-    let o = costed c in
-    let l = lined (o .before) in
-    let n = numbered (l .before) in
-    let s = start (n .before) in
+    let o = costed c in let l = lined (o .before) in let n = numbered (l .before) in let s = start (n .before) in
     fourth-room (s .args .a) (s .args .out .now) (s .pre) (n .put-number-line .ensures) (l .put-number-line2 .ensures)
     (o .put-number-line3 .ensures)
 
@@ -112,10 +106,7 @@ same-length c = search needs
 
 returns : tie.Need-returns
 returns c =
-    let k = c .before .before in
-    let o = costed (k .before) in
-    let l = lined (o .before) in
-    let n = numbered (l .before) in
+    let k = c .before .before in let o = costed (k .before) in let l = lined (o .before) in let n = numbered (l .before) in
     let s = start (n .before) in
     all (s .args .a) (s .args .out .now) (s .pre) (n .put-number-line .ensures) (l .put-number-line2 .ensures)
     (o .put-number-line3 .ensures)

@@ -31,8 +31,7 @@ room : (c : tie.After-slice-known)
     → let a = start c .args in
     0 + length (textOf (a .a) (a .runin .now) (a .cycle .now)) ≤ length (a .out .now)
 room c =
-    let s = start c in
-    let a = s .args in
+    let s = start c in let a = s .args in
     omega (
       arith,
       s .pre,
@@ -50,9 +49,7 @@ slice-aggregate-put-list-line c = search needs
 put-list-line-requires : tie.Need-put-list-line-requires
 unfolding textOf
 put-list-line-requires c κs =
-    let f = figured c in
-    let k = f .before .before in
-    let a = start k .args in
+    let f = figured c in let k = f .before .before in let a = start k .args in
     second-room (figures (a .a)) (keyLine runinKey (joined (a .runin .now))) (keyLine loopKey (joined (a .cycle .now))) (room k)
     (f .put-figures .ensures)
 
@@ -62,10 +59,7 @@ slice-aggregate-put-list-line-2 c = search needs
 put-list-line-requires-2 : tie.Need-put-list-line-requires-2
 unfolding textOf
 put-list-line-requires-2 c κs =
-    let l = listed c in
-    let f = figured (l .before) in
-    let k = f .before .before in
-    let a = start k .args in
+    let l = listed c in let f = figured (l .before) in let k = f .before .before in let a = start k .args in
     third-room (figures (a .a)) (keyLine runinKey (joined (a .runin .now))) (keyLine loopKey (joined (a .cycle .now))) (room k)
     (f .put-figures .ensures)
     (l .put-list-line .ensures)
@@ -76,10 +70,7 @@ same-length c = search needs
 returns : tie.Need-returns
 unfolding textOf
 returns c =
-    let e = c .before .before in
-    let l = listed (e .before) in
-    let f = figured (l .before) in
-    let k = f .before .before in
+    let e = c .before .before in let l = listed (e .before) in let f = figured (l .before) in let k = f .before .before in
     let a = start k .args in
     wrote-front
     (wrote-three (figures (a .a)) (keyLine runinKey (joined (a .runin .now))) (keyLine loopKey (joined (a .cycle .now))) (room k)

@@ -55,6 +55,10 @@ Inv-loop s at key i₀ j₀ i j = Matched s at key i j
 abbrev μ-loop : tie.MeasureT-loop
 μ-loop s at key i₀ j₀ i j = length key - j
 
+-- where a turn knows that the text has a byte to compare
+abbrev there : tie.After-shared-slice-known2 Inv-loop μ-loop → tie.Else1 Inv-loop μ-loop
+there c = c .before .before
+
 loop-holds : tie.Need-loop-holds Inv-loop μ-loop
 loop-holds c = search needs
 
@@ -69,8 +73,9 @@ shared-slice-read-if2-2 : tie.Need-shared-slice-read-if2-2 Inv-loop μ-loop
 shared-slice-read-if2-2 c = search needs
 
 returns-2 : tie.Need-returns-2 Inv-loop μ-loop
-returns-2 c = let l = c .before .before .before .before .before .loop in
-    other-key _ _ _ (l .inv .same ∙ differs _ _ (l .i) (l .j) (c .before .before .before .before .loop-test .taken) (c .before .before .before .if1 .left) (c .if2 .taken))
+returns-2 c =
+    let e = there (c .before) in let l = e .before .before .loop in
+    other-key _ _ _ (l .inv .same ∙ differs _ _ (l .i) (l .j) (e .before .loop-test .taken) (e .if1 .left) (c .if2 .taken))
 
 add-i : tie.Need-add-i Inv-loop μ-loop
 add-i c = search needs
@@ -82,11 +87,12 @@ loop-less : tie.Need-loop-less Inv-loop μ-loop
 loop-less c = search needs
 
 loop-again : tie.Need-loop-again Inv-loop μ-loop
-loop-again c = let l = c .before .before .before .before .before .loop in
+loop-again c =
+    let e = there (c .before) in let l = e .before .before .loop in
     record {
       within = omega arith;
       place = omega (arith, l .inv .place);
-      same = l .inv .same ∙ agrees _ _ (l .i) (l .j) (c .before .before .before .before .loop-test .taken) (c .before .before .before .if1 .left) (c .if2 .left);
+      same = l .inv .same ∙ agrees _ _ (l .i) (l .j) (e .before .loop-test .taken) (e .if1 .left) (c .if2 .left);
     }
 
 returns-3 : tie.Need-returns-3 Inv-loop μ-loop

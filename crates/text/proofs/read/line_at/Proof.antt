@@ -23,13 +23,16 @@ Inv-loop s at line₀ i₀ line i = Counted s at i line
 abbrev μ-loop : tie.MeasureT-loop
 μ-loop s at line₀ i₀ line i = at - i
 
+abbrev start : tie.At-loop Inv-loop μ-loop → tie.Start Inv-loop μ-loop
+start c = c .before .before
+
 loop-holds : tie.Need-loop-holds Inv-loop μ-loop
 loop-holds c = record { within = omega arith; small = omega arith; same = line-start _ _ }
 
 returns : tie.Need-returns Inv-loop μ-loop
 returns c =
-    let l = c .before .before .loop in
-    omega (arith, l .inv .same, newlines-past (c .before .before .before .before .args .s .now) (c .before .before .before .before .args .at) (l .i) (c .if1 .taken))
+    let l = c .before .before in let a = start l .args in
+    omega (arith, l .loop .inv .same, newlines-past (a .s .now) (a .at) (l .loop .i) (c .if1 .taken))
 
 shared-slice-read-newline : tie.Need-shared-slice-read-newline Inv-loop μ-loop
 shared-slice-read-newline c = search needs
@@ -48,19 +51,18 @@ loop-less c = search needs
 
 loop-again : tie.Need-loop-again Inv-loop μ-loop
 loop-again c =
-    let s = c .before .before .before .before .before .before .args .s .now in
-    let l = c .before .before .before .before .loop in
-    let n = newlines-more s (c .before .before .before .before .before .before .args .at) (l .i) (c .before .before .before .loop-test .taken) (c .before .before .if1 .left) in
+    let e = c .before .before in let l = e .before .before in let a = start l .args in
+    let n = newlines-more (a .s .now) (a .at) (l .loop .i) (e .before .loop-test .taken) (e .if1 .left) in
     record {
       within = omega arith;
-      small = omega (arith, l .inv .small);
-      same = omega (arith, l .inv .same, c .newline .ensures .0);
+      small = omega (arith, l .loop .inv .small);
+      same = omega (arith, l .loop .inv .same, c .newline .ensures .0);
     }
 
 returns-2 : tie.Need-returns-2 Inv-loop μ-loop
 returns-2 c =
-    let l = c .before .loop in
-    omega (arith, l .inv .same, newlines-done (c .before .before .before .args .s .now) (c .before .before .before .args .at) (l .i) (c .loop-test .left))
+    let l = c .before in let a = start l .args in
+    omega (arith, l .loop .inv .same, newlines-done (a .s .now) (a .at) (l .loop .i) (c .loop-test .left))
 
 pub line-at-spec : {M : Type 1} → statement M
 line-at-spec =

@@ -39,125 +39,59 @@ abbrev put-decimal-below : ℕ → In 1 put-decimal-kinds.ps
 put-decimal-below t =
     and 1 put-decimal-kinds.ps (falls 1 put-decimal-kinds.ps _<_ μ-put-decimal t) put-decimal.Pre
 
-put-decimal-glyph-requires : (t : ℕ) → put-decimal-lts.Need-glyph-requires (
-  glyph-reads.Asked,
-  glyph-reads.Learnt,
-  put-byte-reads.Asked,
-  put-byte-reads.Learnt,
-  put-decimal-below t,
-  put-decimal.Post,
-) (put-decimal-at t) put-decimal.Post
+abbrev claims : ℕ → put-decimal-lts.Claims
+claims t = (glyph-reads.Asked, glyph-reads.Learnt, put-byte-reads.Asked, put-byte-reads.Learnt, put-decimal-below t, put-decimal.Post)
+
+-- the places that the answers refer to: where the function starts, with one digit and with more, and after the tenth's digits
+module _ (t : ℕ) where
+  abbrev one-digit : put-decimal-lts.After-glyph (claims t) (put-decimal-at t) put-decimal.Post → put-decimal-lts.Start (claims t) (put-decimal-at t) put-decimal.Post
+  one-digit c = c .before .before .before .before
+
+  abbrev more : put-decimal-lts.After-put-decimal-arg (claims t) (put-decimal-at t) put-decimal.Post → put-decimal-lts.Start (claims t) (put-decimal-at t) put-decimal.Post
+  more c = c .before .before .before
+
+  abbrev tenth : put-decimal-lts.After-put-byte-arg2 (claims t) (put-decimal-at t) put-decimal.Post → put-decimal-lts.After-put-decimal (claims t) (put-decimal-at t) put-decimal.Post
+  tenth c = c .before .before .before
+
+put-decimal-glyph-requires : (t : ℕ) → put-decimal-lts.Need-glyph-requires (claims t) (put-decimal-at t) put-decimal.Post
 put-decimal-glyph-requires t c κs = omega arith
 
-put-decimal-put-byte-requires : (t : ℕ) → put-decimal-lts.Need-put-byte-requires (
-  glyph-reads.Asked,
-  glyph-reads.Learnt,
-  put-byte-reads.Asked,
-  put-byte-reads.Learnt,
-  put-decimal-below t,
-  put-decimal.Post,
-) (put-decimal-at t) put-decimal.Post
-put-decimal-put-byte-requires t c κs =
-    let s = c .before .before .before .before in
-    omega (arith, decimal-some (s .args .x), s .pre .1)
+put-decimal-put-byte-requires : (t : ℕ) → put-decimal-lts.Need-put-byte-requires (claims t) (put-decimal-at t) put-decimal.Post
+put-decimal-put-byte-requires t c κs = let s = one-digit t c in omega (arith, decimal-some (s .args .x), s .pre .1)
 
-put-decimal-same-length : (t : ℕ) → put-decimal-lts.Need-same-length (
-  glyph-reads.Asked,
-  glyph-reads.Learnt,
-  put-byte-reads.Asked,
-  put-byte-reads.Learnt,
-  put-decimal-below t,
-  put-decimal.Post,
-) (put-decimal-at t) put-decimal.Post
+put-decimal-same-length : (t : ℕ) → put-decimal-lts.Need-same-length (claims t) (put-decimal-at t) put-decimal.Post
 put-decimal-same-length t c = c .before .before .put-byte .kept .0
 
-put-decimal-returns : (t : ℕ) → put-decimal-lts.Need-returns (
-  glyph-reads.Asked,
-  glyph-reads.Learnt,
-  put-byte-reads.Asked,
-  put-byte-reads.Learnt,
-  put-decimal-below t,
-  put-decimal.Post,
-) (put-decimal-at t) put-decimal.Post
+put-decimal-returns : (t : ℕ) → put-decimal-lts.Need-returns (claims t) (put-decimal-at t) put-decimal.Post
 put-decimal-returns t c =
-    let c₁ = c .before .before in
-    let g = c₁ .before in
-    let s = g .before .before .before .before in
-    rw (decimal-small (s .args .x) (omega arith), ← g .glyph .ensures) (c₁ .put-byte .ensures)
+    let d = c .before .before in let g = d .before in
+    rw (decimal-small (one-digit t g .args .x) (omega arith), ← g .glyph .ensures) (d .put-byte .ensures)
 
-put-decimal-put-decimal-requires : (t : ℕ) → put-decimal-lts.Need-put-decimal-requires (
-  glyph-reads.Asked,
-  glyph-reads.Learnt,
-  put-byte-reads.Asked,
-  put-byte-reads.Learnt,
-  put-decimal-below t,
-  put-decimal.Post,
-) (put-decimal-at t) put-decimal.Post
+put-decimal-put-decimal-requires : (t : ℕ) → put-decimal-lts.Need-put-decimal-requires (claims t) (put-decimal-at t) put-decimal.Post
 put-decimal-put-decimal-requires t c κs =
-    let s = c .before .before .before in
+    let s = more t c in
     let big : 10 ≤ s .args .x = omega arith in
     (omega (arith, s .pre .0), omega (arith, decimal-longer (s .args .x) big, s .pre .1))
 
-put-decimal-glyph-requires-2 : (t : ℕ) → put-decimal-lts.Need-glyph-requires-2 (
-  glyph-reads.Asked,
-  glyph-reads.Learnt,
-  put-byte-reads.Asked,
-  put-byte-reads.Learnt,
-  put-decimal-below t,
-  put-decimal.Post,
-) (put-decimal-at t) put-decimal.Post
-put-decimal-glyph-requires-2 t c κs = mod-lt (c .before .before .before .before .before .before .before .args .x) (omega arith)
+put-decimal-glyph-requires-2 : (t : ℕ) → put-decimal-lts.Need-glyph-requires-2 (claims t) (put-decimal-at t) put-decimal.Post
+put-decimal-glyph-requires-2 t c κs = mod-lt (more t (tenth t c .before) .args .x) (omega arith)
 
-put-decimal-put-byte-requires-2 : (t : ℕ) → put-decimal-lts.Need-put-byte-requires-2 (
-  glyph-reads.Asked,
-  glyph-reads.Learnt,
-  put-byte-reads.Asked,
-  put-byte-reads.Learnt,
-  put-decimal-below t,
-  put-decimal.Post,
-) (put-decimal-at t) put-decimal.Post
+put-decimal-put-byte-requires-2 : (t : ℕ) → put-decimal-lts.Need-put-byte-requires-2 (claims t) (put-decimal-at t) put-decimal.Post
 put-decimal-put-byte-requires-2 t c κs =
-    let c₁ = c .before .before .before .before in
-    let s = c₁ .before .before .before .before in
+    let d = tenth t (c .before) in let s = more t (d .before) in
     let big : 10 ≤ s .args .x = omega arith in
-    omega (arith, decimal-longer (s .args .x) big, s .pre .1, c₁ .put-decimal .ensures .place)
+    omega (arith, decimal-longer (s .args .x) big, s .pre .1, d .put-decimal .ensures .place)
 
-put-decimal-same-length-2 : (t : ℕ) → put-decimal-lts.Need-same-length-2 (
-  glyph-reads.Asked,
-  glyph-reads.Learnt,
-  put-byte-reads.Asked,
-  put-byte-reads.Learnt,
-  put-decimal-below t,
-  put-decimal.Post,
-) (put-decimal-at t) put-decimal.Post
+put-decimal-same-length-2 : (t : ℕ) → put-decimal-lts.Need-same-length-2 (claims t) (put-decimal-at t) put-decimal.Post
 put-decimal-same-length-2 t c = search needs
 
-put-decimal-returns-2 : (t : ℕ) → put-decimal-lts.Need-returns-2 (
-  glyph-reads.Asked,
-  glyph-reads.Learnt,
-  put-byte-reads.Asked,
-  put-byte-reads.Learnt,
-  put-decimal-below t,
-  put-decimal.Post,
-) (put-decimal-at t) put-decimal.Post
+put-decimal-returns-2 : (t : ℕ) → put-decimal-lts.Need-returns-2 (claims t) (put-decimal-at t) put-decimal.Post
 put-decimal-returns-2 t c =
-    let c₂ = c .before .before in
-    let g = c₂ .before in
-    let c₁ = g .before .before .before .before in
-    let s = c₁ .before .before .before .before in
-    last (s .args .x) (omega arith) (s .pre .1) (c₁ .put-decimal .ensures) (g .glyph2 .ensures)
-    (c₂ .put-byte2 .ensures)
+    let l = c .before .before in let g = l .before in let d = tenth t (g .before) in let s = more t (d .before) in
+    last (s .args .x) (omega arith) (s .pre .1) (d .put-decimal .ensures) (g .glyph2 .ensures) (l .put-byte2 .ensures)
 
 pub +put-decimal-spec : {M : Type 1} → statement M
-+put-decimal-spec = close μ-put-decimal λ t. put-decimal-lts.spec (
-  glyph-reads.Asked,
-  glyph-reads.Learnt,
-  put-byte-reads.Asked,
-  put-byte-reads.Learnt,
-  put-decimal-below t,
-  put-decimal.Post,
-)
-    (put-decimal-at t)
++put-decimal-spec = close μ-put-decimal λ t. put-decimal-lts.spec (claims t) (put-decimal-at t)
     put-decimal.Post
     (put-decimal-glyph-requires t)
     (put-decimal-put-byte-requires t)

@@ -52,9 +52,8 @@ loop-less c = search needs
 
 loop-again : tie.Need-loop-again Inv-loop μ-loop
 loop-again c =
-    let a = c .before .before .before .args in
-    let l = c .before .before .loop in
-    (omega arith, next (a .at) (l .i) (a .bytes .now) (omega arith) (l .inv .1))
+    let l = c .before .before in let a = l .before .args in
+    (omega arith, next (a .at) (l .loop .i) (a .bytes .now) (omega arith) (l .loop .inv .1))
 
 add-result : tie.Need-add-result Inv-loop μ-loop
 add-result c = search needs
@@ -64,9 +63,8 @@ same-length c = search needs
 
 returns : tie.Need-returns Inv-loop μ-loop
 returns c =
-    let a = c .before .before .args in
-    let l = c .before .loop in
-    end (a .at) (l .i) (a .bytes .now) (omega arith) (l .inv .1)
+    let l = c .before in let a = l .before .args in
+    end (a .at) (l .loop .i) (a .bytes .now) (omega arith) (l .loop .inv .1)
 
 pub put-bytes-spec : {M : Type 1} → statement M
 put-bytes-spec =

@@ -45,17 +45,22 @@ Inv-loop out₀ at numbers next₀ i₀ out next i =
 abbrev μ-loop : tie.MeasureT-loop
 μ-loop out₀ at numbers next₀ i₀ out next i = length numbers - i
 
+-- the places that the answers refer to: where the function starts, and after a turn's comma
+abbrev start : tie.At-loop Inv-loop μ-loop → tie.Start Inv-loop μ-loop
+start c = c .before .before .before
+
+abbrev comma : tie.After-wide Inv-loop μ-loop → tie.After-put-byte Inv-loop μ-loop
+comma c = c .before .before .before .before .before
+
 loop-holds : tie.Need-loop-holds Inv-loop μ-loop
 loop-holds c =
-    let a = c .before .before .args in
-    (omega arith, left-start (a .out .now) (a .at) (commaed (a .numbers .now)) (c .before .before .pre))
+    let s = c .before .before in let a = s .args in
+    (omega arith, left-start (a .out .now) (a .at) (commaed (a .numbers .now)) (s .pre))
 
 put-byte-requires : tie.Need-put-byte-requires Inv-loop μ-loop
 put-byte-requires c κs =
-    let t = c .before in
-    let l = t .before in
-    let s = l .before .before .before in
-    comma-room (s .args .numbers .now) (l .loop .i) (t .loop-test .taken) (l .loop .inv .1)
+    let t = c .before in let l = t .before in
+    comma-room (start l .args .numbers .now) (l .loop .i) (t .loop-test .taken) (l .loop .inv .1)
 
 shared-slice-read-wide : tie.Need-shared-slice-read-wide Inv-loop μ-loop
 shared-slice-read-wide c = search needs
@@ -65,12 +70,9 @@ wide-requires c κs = search needs
 
 put-decimal-requires : tie.Need-put-decimal-requires Inv-loop μ-loop
 put-decimal-requires c κs =
-    let c₁ = c .before .before .before .before .before in
-    let t = c₁ .before .before in
-    let l = t .before in
-    let s = l .before .before .before in
+    let b = comma c in let t = b .before .before in let l = t .before in
     rw (c .wide .ensures)
-    (number-room (s .args .numbers .now) (l .loop .i) (t .loop-test .taken) (l .loop .inv .1) (c₁ .put-byte .ensures))
+    (number-room (start l .args .numbers .now) (l .loop .i) (t .loop-test .taken) (l .loop .inv .1) (b .put-byte .ensures))
 
 add-i : tie.Need-add-i Inv-loop μ-loop
 add-i c = search needs
@@ -80,26 +82,19 @@ loop-less c = search needs
 
 loop-again : tie.Need-loop-again Inv-loop μ-loop
 loop-again c =
-    let c₂ = c .before .before in
-    let w = c₂ .before in
-    let c₁ = w .before .before .before .before .before in
-    let t = c₁ .before .before in
-    let l = t .before in
-    let s = l .before .before .before in (
+    let n = c .before .before in let w = n .before in let b = comma w in let t = b .before .before in
+    let l = t .before in (
       omega arith,
-      turn (s .args .numbers .now) (l .loop .i) (t .loop-test .taken) (l .loop .inv .1) (c₁ .put-byte .ensures)
+      turn (start l .args .numbers .now) (l .loop .i) (t .loop-test .taken) (l .loop .inv .1) (b .put-byte .ensures)
           (w .wide .ensures)
-          (c₂ .put-decimal .ensures),
+          (n .put-decimal .ensures),
     )
 
 same-length : tie.Need-same-length Inv-loop μ-loop
 same-length c = c .before .loop .inv .1 .size
 
 returns : tie.Need-returns Inv-loop μ-loop
-returns c =
-    let l = c .before in
-    let s = l .before .before .before in
-    end (s .args .numbers .now) (l .loop .i) (c .loop-test .left) (l .loop .inv .1)
+returns c = let l = c .before in end (start l .args .numbers .now) (l .loop .i) (c .loop-test .left) (l .loop .inv .1)
 
 pub put-commaed-spec : {M : Type 1} → statement M
 put-commaed-spec =

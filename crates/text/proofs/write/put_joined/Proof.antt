@@ -47,10 +47,18 @@ module _ (numbers : List ℕ) (some : 0 < length numbers) (b : List ℕ) (at : �
     both : {after : List ℕ} {end : ℕ} → Wrote now next (others numbers) after end → Wrote b at (joined numbers) after end
     both o = rw (joined-first numbers some) (wrote-both room-both (rw e at d) o)
 
+-- the places that the answers refer to: where the function starts, and after the first number
+abbrev start : tie.After-shared-slice-known → tie.Start
+start c = c .before .before
+
+abbrev some : tie.After-wide → tie.Start
+some c = start (c .before .before .before .before)
+
+abbrev put-first : tie.After-put-commaed-arg2 → tie.After-put-decimal
+put-first c = c .before .before .before .before
+
 returns : tie.Need-returns
-returns c =
-    let s = c .before .before .before in
-    none (s .args .out .now) (s .args .at) (s .args .numbers .now) (c .if1 .taken)
+returns c = let a = start (c .before) .args in none (a .out .now) (a .at) (a .numbers .now) (c .if1 .taken)
 
 shared-slice-read-wide : tie.Need-shared-slice-read-wide
 shared-slice-read-wide c = search needs
@@ -60,8 +68,8 @@ wide-requires c κs = search needs
 
 put-decimal-requires : tie.Need-put-decimal-requires
 put-decimal-requires c κs =
-    let s = c .before .before .before .before .before .before in
-    rw (c .wide .ensures) (first-room (s .args .numbers .now) (omega arith) (s .args .out .now) (s .args .at) (s .pre))
+    let a = some c .args in
+    rw (c .wide .ensures) (first-room (a .numbers .now) (omega arith) (a .out .now) (a .at) (some c .pre))
 
 sub-put-commaed : tie.Need-sub-put-commaed
 sub-put-commaed c = search needs
@@ -74,27 +82,18 @@ part-put-commaed-end c = search needs
 
 put-commaed-requires : tie.Need-put-commaed-requires
 put-commaed-requires c κs =
-    let c₁ = c .before .before .before .before in
-    let w = c₁ .before in
-    let s = w .before .before .before .before .before .before in
+    let f = put-first c in let w = f .before in let a = some w .args in
     rw part-to-end
-    (others-room (s .args .numbers .now) (omega arith) (s .args .out .now) (s .args .at) (s .pre)
-    (w .wide .ensures)
-    (c₁ .put-decimal .ensures))
+    (others-room (a .numbers .now) (omega arith) (a .out .now) (a .at) (some w .pre) (w .wide .ensures) (f .put-decimal .ensures))
 
 same-length : tie.Need-same-length
 same-length c = search needs
 
 returns-2 : tie.Need-returns-2
 returns-2 c =
-    let c₂ = c .before .before in
-    let c₁ = c₂ .before .before .before .before .before in
-    let w = c₁ .before in
-    let s = w .before .before .before .before .before .before in
-    both (s .args .numbers .now) (omega arith) (s .args .out .now) (s .args .at) (s .pre)
-    (w .wide .ensures)
-    (c₁ .put-decimal .ensures)
-    (rw part-to-end at (c₂ .put-commaed .ensures))
+    let o = c .before .before in let f = put-first (o .before) in let w = f .before in let a = some w .args in
+    both (a .numbers .now) (omega arith) (a .out .now) (a .at) (some w .pre) (w .wide .ensures) (f .put-decimal .ensures)
+    (rw part-to-end at (o .put-commaed .ensures))
 
 pub put-joined-spec : {M : Type 1} → statement M
 put-joined-spec =
