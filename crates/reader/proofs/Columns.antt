@@ -7,14 +7,12 @@ use native.Mathlib.Omega.{arith}
 use lib.ListN.{set, getD, replicate}
 use lib.Seq.{getD-set-other}
 use Rattle.automata.specs.WellFormed.{Below, ZeroFrom}
-use Rattle.reader.specs.Line.{firstOf, secondOf, thirdOf, fourthOf, lineOfOne, lineOfTwo, lineOfFour}
 use Rattle.reader.specs.Blocks.{repeat, Filling, labelStep, labelBlock, roadStep, roadBlock, moveStep, moveBlock}
 use Rattle.reader.specs.declared.line.Line.{Line}
-use Rattle.reader.specs.declared.line.Line.the-variants as line
 use Rattle.reader.specs.declared.block.LabelBlock.{LabelBlock}
 use Rattle.reader.specs.declared.block.RoadBlock.{RoadBlock}
 use Rattle.reader.specs.declared.block.MoveBlock.{MoveBlock}
-use Rattle.reader.proofs.Judging.{one-first, two-first, two-second, four-first, four-second, four-third, four-fourth}
+use Rattle.reader.proofs.Chains.{one-read, two-read, four-read}
 
 -- what each line keeps of the block and of the count of lines read, n lines keep
 module _ {B : Type 0} (f : Filling B → Filling B) (Q : ℕ → B → Type 0) (next : (x : Filling B) → f x .next ≡ x .next + 1)
@@ -66,30 +64,11 @@ pub column-below : (bound i : ℕ) (xs : List ℕ) → 1 ≤ bound → Column (b
 column-below bound i xs o c k = let z = c .low k in omega arith
 
 module _ (s : List ℕ) where
-  one-top : (l : Line) (key : List ℕ) (low bound : ℕ) → firstOf (lineOfOne s l key low bound) ≤ bound - 1
-  unfolding lineOfOne
-  one-top (line.Fault f) key low bound = omega arith
-  one-top (line.Numbers xs c) key low bound = one-first s (c .at) low bound _
-
-  two-top : (l : Line) (key : List ℕ) (bound : ℕ) → (firstOf (lineOfTwo s l key bound) ≤ bound - 1) × (secondOf (lineOfTwo s l key bound) ≤ bound - 1)
-  unfolding lineOfTwo
-  two-top (line.Fault f) key bound = (omega arith, omega arith)
-  two-top (line.Numbers xs c) key bound = (two-first s (c .at) bound _ _, two-second s (c .at) bound _ _)
-
-  four-top : (l : Line) (key : List ℕ) (outer inner : ℕ)
-      → (firstOf (lineOfFour s l key outer inner) ≤ outer - 1) × (secondOf (lineOfFour s l key outer inner) ≤ inner - 1)
-      × (thirdOf (lineOfFour s l key outer inner) ≤ inner - 1) × (fourthOf (lineOfFour s l key outer inner) ≤ outer - 1)
-  unfolding lineOfFour
-  four-top (line.Fault f) key outer inner = (omega arith, omega arith, omega arith, omega arith)
-  four-top (line.Numbers xs c) key outer inner =
-      let at = c .at in
-      (four-first s at outer inner _ _ _ _, four-second s at outer inner _ _ _ _, four-third s at outer inner _ _ _ _, four-fourth s at outer inner _ _ _ _)
-
   pub labels-filled : (l : Line) (n bound : ℕ) → Column (bound - 1) n (labelBlock s l n bound .labels)
   unfolding labelBlock
   labels-filled l n bound =
       filled (labelStep s bound) (λ (i : ℕ) (b : LabelBlock). Column (bound - 1) i (b .labels)) (λ x. refl)
-      (λ x q. column-set _ q (one-top (x .block .line) _ 0 bound))
+      (λ x q. column-set _ q (one-read s (x .block .line) _ 0 bound .first-low))
       n _ (column-zeros (bound - 1) 128)
 
   pub record RoadColumns (bound i : ℕ) (b : RoadBlock) : Type 0 where
@@ -100,7 +79,7 @@ module _ (s : List ℕ) where
   unfolding roadBlock
   roads-filled l n bound =
       filled (roadStep s bound) (RoadColumns bound) (λ x. refl)
-      (λ x q. let t = two-top (x .block .line) _ bound in record { from = column-set _ (q .from) (t .0); to = column-set _ (q .to) (t .1) })
+      (λ x q. let t = two-read s (x .block .line) _ bound in record { from = column-set _ (q .from) (t .first-low); to = column-set _ (q .to) (t .second-low) })
       n _ (record { from = column-zeros (bound - 1) 1024; to = column-zeros (bound - 1) 1024 })
 
   pub record MoveColumns (q labels i : ℕ) (b : MoveBlock) : Type 0 where
@@ -113,11 +92,11 @@ module _ (s : List ℕ) where
   unfolding moveBlock
   moves-filled l n q labels =
       filled (moveStep s q labels) (MoveColumns q labels) (λ x. refl)
-      (λ x c. let t = four-top (x .block .line) _ q labels in record {
-        from = column-set _ (c .from) (t .0);
-        need = column-set _ (c .need) (t .1);
-        bar = column-set _ (c .bar) (t .2);
-        to = column-set _ (c .to) (t .3);
+      (λ x c. let t = four-read s (x .block .line) _ q labels in record {
+        from = column-set _ (c .from) (t .first-low);
+        need = column-set _ (c .need) (t .second-low);
+        bar = column-set _ (c .bar) (t .third-low);
+        to = column-set _ (c .to) (t .fourth-low);
       })
       n _
       (record { from = column-zeros (q - 1) 64; need = column-zeros (labels - 1) 64; bar = column-zeros (labels - 1) 64; to = column-zeros (q - 1) 64 })

@@ -1,7 +1,7 @@
 -- What was read without a fault is in its range. A line without a fault stands behind one without a fault and has its number in its
 -- range; so going back from the last line, every line of a block, of an automaton and of the map is in its range.
 use mathlib.Core.Path.{_≡_, refl, _∙_}
-use mathlib.Core.Bool.{Bool, true, false}
+use mathlib.Core.Bool.{true, false}
 use mathlib.Core.List.{List}
 use Prim.Native.Nat.{ℕ, zero, suc, _+_, _^_, _≤_, _<_}
 use native.Mathlib.Omega.{arith}
@@ -11,43 +11,30 @@ use lib.Seq.{getD-set-same, getD-set-other}
 use Rattle.automata.specs.WellFormed as automaton
 use Rattle.automata.specs.WellFormed.{ZeroFrom, noAutomaton}
 use Rattle.automata.specs.declared.Automaton.{Automaton}
-use Rattle.reader.specs.Line.{judge, judgeOne, lineOfOne, lineOfTwo, lineOfFour, firstOf, finish}
+use Rattle.reader.specs.Line.{lineOfOne, lineOfTwo, lineOfFour, firstOf, finish}
 use Rattle.reader.specs.Keys.{firstKey, acceptKey, movesKey, hardKey, softKey, weightKey}
 use Rattle.reader.specs.Blocks.{Filling, moveBlock, automatonBlock, hardBlock, softBlock, softStep, softBlocks}
-use Rattle.text.specs.Scan.{after, keyAt}
-use Rattle.text.specs.declared.read.Number.{Number}
-use Rattle.text.specs.declared.read.Number.the-variants.{Value, Bad}
 use Rattle.reader.specs.declared.line.Numbers.{Numbers}
 use Rattle.reader.specs.declared.line.Line.{Line}
 use Rattle.reader.specs.declared.line.Line.the-variants as line
 use Rattle.reader.specs.declared.block.SoftBlocks.{SoftBlocks}
-use Rattle.reader.proofs.Judging.{within-both}
+use Rattle.reader.proofs.Chains.{within-both, good, Led, First, one-led, two-led, four-led}
 use Rattle.reader.proofs.Sticky.{Sticky, moves-keep, soft-keeps}
 use Rattle.reader.proofs.Columns.{filled, column-below, set-rest, zeros-rest, moves-filled}
-
-abbrev pub good : Line → Bool
-good (line.Numbers xs c) = true
-good (line.Fault f) = false
 
 abbrev pub Faulty : Line → Type 0
 Faulty l = good l ≡ false
 
-module _ (s : List ℕ) where
-  pub faulty : Sticky s Faulty
-  unfolding lineOfOne lineOfTwo lineOfFour
-  faulty = record { one = one; two = two; four = four }
-    where
-      one : (l : Line) (key : List ℕ) (low bound : ℕ) → Faulty l → Faulty (lineOfOne s l key low bound)
-      one (line.Fault f) key low bound p = refl
-      one (line.Numbers xs c) key low bound p = let z : _≡_ {A = ℕ} 0 1 = cc in absurd (omega arith)
+led-faulty : (s : List ℕ) (Q : Numbers → Type 0) (l r : Line) → Led s Q l r → Faulty l → Faulty r
+led-faulty s Q l (line.Numbers xs c) g p = let z : _≡_ {A = ℕ} 0 1 = cc in absurd (omega arith)
+led-faulty s Q l (line.Fault f) g p = refl
 
-      two : (l : Line) (key : List ℕ) (bound : ℕ) → Faulty l → Faulty (lineOfTwo s l key bound)
-      two (line.Fault f) key bound p = refl
-      two (line.Numbers xs c) key bound p = let z : _≡_ {A = ℕ} 0 1 = cc in absurd (omega arith)
-
-      four : (l : Line) (key : List ℕ) (outer inner : ℕ) → Faulty l → Faulty (lineOfFour s l key outer inner)
-      four (line.Fault f) key outer inner p = refl
-      four (line.Numbers xs c) key outer inner p = let z : _≡_ {A = ℕ} 0 1 = cc in absurd (omega arith)
+pub faulty : (s : List ℕ) → Sticky s Faulty
+faulty s = record {
+  one = λ l key low bound. led-faulty s _ l (lineOfOne s l key low bound) (one-led s l key low bound);
+  two = λ l key bound. led-faulty s _ l (lineOfTwo s l key bound) (two-led s l key bound);
+  four = λ l key outer inner. led-faulty s _ l (lineOfFour s l key outer inner) (four-led s l key outer inner);
+}
 
 -- what keeps a fault has none only behind a line that has none
 pub was-good : (l r : Line) → (Faulty l → Faulty r) → good r ≡ true → good l ≡ true
@@ -59,26 +46,20 @@ unfolding finish
 finish-good s (line.Fault f) e = e
 finish-good s (line.Numbers xs c) e = refl
 
-judge-good : (s : List ℕ) (at : ℕ) (last : Number) (fit : Bool) (xs : Numbers) → good (judge s at last fit xs) ≡ true
-    → (fit ≡ true) × (firstOf (judge s at last fit xs) ≡ xs .first)
-unfolding judge
-judge-good s at Bad fit xs e = let z : _≡_ {A = ℕ} 0 1 = cc in absurd (omega arith)
-judge-good s at (Value v i) true xs e = (refl, refl)
-judge-good s at (Value v i) false xs e = let z : _≡_ {A = ℕ} 0 1 = cc in absurd (omega arith)
-
 pub record OneGood (low bound : ℕ) (l r : Line) : Type 0 where
   pub was : good l ≡ true
   pub least : low ≤ firstOf r
   pub below : firstOf r < bound
 
-module _ (s : List ℕ) where
-  pub one-good : (l : Line) (key : List ℕ) (low bound : ℕ) → good (lineOfOne s l key low bound) ≡ true → OneGood low bound l (lineOfOne s l key low bound)
-  unfolding lineOfOne judgeOne
-  one-good (line.Fault f) key low bound e = let z : _≡_ {A = ℕ} 0 1 = cc in absurd (omega arith)
-  one-good (line.Numbers xs c) key low bound e =
-      let j = judge-good s (c .at) (after s (keyAt s (c .at) key) 10) _ _ e in
-      let h = within-both _ low bound (j .0) in
-      record { was = refl; least = rw (j .1) (h .0); below = rw (j .1) (h .1) }
+led-good : (s : List ℕ) (low bound : ℕ) (l r : Line) → Led s (First low bound) l r → good r ≡ true → OneGood low bound l r
+led-good s low bound l (line.Numbers xs c) g e =
+    let h = within-both (xs .first) low bound (g .1) in
+    record { was = g .0; least = h .0; below = h .1 }
+led-good s low bound l (line.Fault f) g e = let z : _≡_ {A = ℕ} 0 1 = cc in absurd (omega arith)
+
+pub one-good : (s : List ℕ) (l : Line) (key : List ℕ) (low bound : ℕ) → good (lineOfOne s l key low bound) ≡ true
+    → OneGood low bound l (lineOfOne s l key low bound)
+one-good s l key low bound = led-good s low bound l (lineOfOne s l key low bound) (one-led s l key low bound)
 
 -- an automaton's lines
 module _ (s : List ℕ) (l : Line) (q labels : ℕ) (e : good (automatonBlock s l q labels .line) ≡ true) where

@@ -1,4 +1,4 @@
-pub mod Judging
+pub mod Chains
 pub mod Filling
 pub mod Steps
 pub mod Sequences

@@ -7,14 +7,12 @@ use native.Mathlib.Omega.{arith}
 use lib.ListN.{length}
 use lib.Dec.{ltb}
 use Rattle.text.specs.Scan.{lineAt}
-use Rattle.reader.specs.Line.{choose, judge, judgeOne, judgeTwo, judgeFour, lineOfOne, lineOfTwo, lineOfFour, firstOf, top, finish}
+use Rattle.reader.specs.Line.{choose, lineOfOne, lineOfTwo, lineOfFour, firstOf, top, finish}
 use Rattle.reader.specs.Keys.{tourKey, marksKey, placesKey, startKey, roadsKey, firstKey, acceptKey, movesKey, hardKey, rulesKey, softKey, weightKey}
 use Rattle.reader.specs.Blocks.{repeat, Filling, labelStep, labelBlock, roadStep, roadBlock, moveStep, moveBlock, automatonBlock, hardBlock, softBlock, softStep, softBlocks}
 use Rattle.reader.specs.Map.{mapOf}
 use Rattle.reader.specs.Reading.{draftOf}
 use Rattle.reader.specs.Outcome.{faultLine}
-use Rattle.text.specs.declared.read.Number.{Number}
-use Rattle.text.specs.declared.read.Number.the-variants.{Value, Bad}
 use Rattle.reader.specs.declared.line.Numbers.{Numbers}
 use Rattle.reader.specs.declared.line.Fault.{Fault}
 use Rattle.reader.specs.declared.line.Fault.the-variants.{Form}
@@ -25,6 +23,7 @@ use Rattle.reader.specs.declared.block.RoadBlock.{RoadBlock}
 use Rattle.reader.specs.declared.block.MoveBlock.{MoveBlock}
 use Rattle.reader.specs.declared.block.SoftBlocks.{SoftBlocks}
 use Rattle.text.proofs.Newlines.{line-most}
+use Rattle.reader.proofs.Chains.{before, here, Led, one-led, two-led, four-led}
 
 -- what f keeps, repeating f keeps
 pub repeat-keeps : {S : Type 0} (P : S → Type 0) (f : S → S) → ((x : S) → P x → P (f x)) → (n : ℕ) (x : S) → P x → P (repeat n f x)
@@ -82,29 +81,17 @@ module _ (s : List ℕ) where
   abbrev Early : Line → Type 0
   Early l = faultAt l ≤ length s + 1
 
-  judge-early : (at : ℕ) (last : Number) (fit : Bool) (xs : Numbers) → Early (judge s at last fit xs)
-  unfolding judge
-  judge-early at Bad fit xs = line-most s at
-  judge-early at (Value v i) true xs = omega arith
-  judge-early at (Value v i) false xs = line-most s at
-
-  one-early : (l : Line) (key : List ℕ) (low bound : ℕ) → Early l → Early (lineOfOne s l key low bound)
-  unfolding lineOfOne judgeOne
-  one-early (line.Fault f) key low bound p = p
-  one-early (line.Numbers xs c) key low bound p = judge-early (c .at) _ _ _
-
-  two-early : (l : Line) (key : List ℕ) (bound : ℕ) → Early l → Early (lineOfTwo s l key bound)
-  unfolding lineOfTwo judgeTwo
-  two-early (line.Fault f) key bound p = p
-  two-early (line.Numbers xs c) key bound p = judge-early (c .at) _ _ _
-
-  four-early : (l : Line) (key : List ℕ) (outer inner : ℕ) → Early l → Early (lineOfFour s l key outer inner)
-  unfolding lineOfFour judgeFour
-  four-early (line.Fault f) key outer inner p = p
-  four-early (line.Numbers xs c) key outer inner p = judge-early (c .at) _ _ _
+  led-early : (Q : Numbers → Type 0) (l r : Line) → Led s Q l r → Early l → Early r
+  led-early Q l (line.Numbers xs c) g p = omega arith
+  led-early Q l (line.Fault f) (before e) p = rw e at p
+  led-early Q l (line.Fault f) (here at e) p = rw e (line-most s at)
 
   early : Sticky s Early
-  early = record { one = one-early; two = two-early; four = four-early }
+  early = record {
+    one = λ l key low bound. led-early _ l (lineOfOne s l key low bound) (one-led s l key low bound);
+    two = λ l key bound. led-early _ l (lineOfTwo s l key bound) (two-led s l key bound);
+    four = λ l key outer inner. led-early _ l (lineOfFour s l key outer inner) (four-led s l key outer inner);
+  }
 
   finish-early : (l : Line) → Early l → Early (finish s l)
   unfolding finish
@@ -125,10 +112,10 @@ module _ (s : List ℕ) where
       let start = lineOfOne s (labels .line) startKey 0 (firstOf places) in
       let count = lineOfOne s start roadsKey 0 1025 in
       roads-keep s Early early count (firstOf count) (firstOf places)
-      (one-early start roadsKey 0 1025
-      (one-early (labels .line) startKey 0 (firstOf places)
+      (early .one start roadsKey 0 1025
+      (early .one (labels .line) startKey 0 (firstOf places)
       (labels-keep s Early early places (firstOf places) (2 ^ firstOf marks)
-      (one-early marks placesKey 1 129 (one-early tour marksKey 0 9 (one-early top tourKey 1 2 (omega arith)))))))
+      (early .one marks placesKey 1 129 (early .one tour marksKey 0 9 (early .one top tourKey 1 2 (omega arith)))))))
 
   -- the fault of a plan file is of one of its lines, or of the line behind them
   pub draft-early : faultAt (draftOf s .line) ≤ length s + 1
@@ -139,4 +126,4 @@ module _ (s : List ℕ) where
       let count = lineOfOne s (hard .line) rulesKey 0 9 in
       finish-early (softBlocks s count (firstOf count) bound .line)
       (softs-keep s Early early count (firstOf count) bound
-      (one-early (hard .line) rulesKey 0 9 (hard-keeps s Early early (mapOf s .line) bound map-early)))
+      (early .one (hard .line) rulesKey 0 9 (hard-keeps s Early early (mapOf s .line) bound map-early)))

@@ -28,7 +28,8 @@ use Rattle.reader.specs.declared.Reading.{Reading}
 use Rattle.reader.specs.declared.Outcome.the-variants as outcome
 use Rattle.reader.proofs.Sticky.{labels-keep, roads-keep, hard-keeps, softs-keep}
 use Rattle.reader.proofs.Columns.{column-below, labels-filled, roads-filled}
-use Rattle.reader.proofs.Faultless.{good, Faulty, faulty, was-good, finish-good, OneGood, one-good, hard-read, softs-read}
+use Rattle.reader.proofs.Chains.{good}
+use Rattle.reader.proofs.Faultless.{Faulty, faulty, was-good, finish-good, OneGood, one-good, hard-read, softs-read}
 
 -- the lines of the map
 module _ (s : List ℕ) (e : good (mapOf s .line) ≡ true) where

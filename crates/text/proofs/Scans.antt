@@ -11,8 +11,7 @@ use native.Mathlib.Nat.{add-zero}
 use lib.ListN.{length, drop, getD, drop-of-length-le, length-drop}
 use lib.Seq.{drop-cons, getD-drop}
 use borrow.Author.Tests.{lt-ltb, le-ltb, ltb-false, eq-eqb, ne-eqb}
-use Rattle.text.specs.Scan.{isDigit, canonical, digitCount, value, leading, numberAt, after, cap, valueOf}
-use Rattle.text.specs.declared.read.Number.{Number}
+use Rattle.text.specs.Scan.{isDigit, canonical, digitCount, value, leading, numberAt, cap}
 use Rattle.text.specs.declared.read.Number.the-variants.{Value, Bad}
 
 not-low : (t u : Bool) → cond t false u ≡ true → t ≡ false
@@ -94,14 +93,3 @@ module _ (s : List ℕ) (at i e : ℕ) (from : at ≤ i) (count : digitCount (dr
       number-read c v w =
           let j : at + (i - at) + 1 ≡ i + 1 = omega arith in
           rw (count, lt-ltb _ _ inside, last, eq-eqb _ _ k, first, c, w, j)
-
--- only the place of what stands before is used, so its value may be held
-pub after-cap : (s : List ℕ) (n : Number) (e : ℕ) → after s (cap n) e ≡ after s n e
-unfolding after cap
-after-cap s (Value v i) e = refl
-after-cap s Bad e = refl
-
-pub value-cap : (a : Number) → valueOf (cap a) ≡ min (valueOf a) 4294967295
-unfolding cap
-value-cap (Value v i) = refl
-value-cap Bad = refl

@@ -1,7 +1,7 @@
 //! Readers of a text: keys, decimal numbers and line numbers.
 ghost use mathlib.Core.Path.{_≡_};
 ghost use Prim.Native.Nat.{_+_, _-_, _*_, _≤_, _<_, min};
-ghost use Rattle.text.specs.Scan.{isDigit, canonical, keyAt, numberAt, after, cap, valueOf, newline, lineAt};
+ghost use Rattle.text.specs.Scan.{isDigit, canonical, keyAt, numberAt, cap, newline, lineAt};
 
 // A number with the index just past it, or no number of good form there.
 pub enum Number {
@@ -76,7 +76,7 @@ fn append_digit(v: u32, b: u8) -> u32
 }
 
 // The decimal number at index `at`, of any digit count, ended by the byte `end`. Its value is held at 2^32 - 1.
-fn number_at(s: &[u8], at: usize, end: u8) -> Number
+pub fn number_at(s: &[u8], at: usize, end: u8) -> Number
     ensures { λ r. ⌜ r ≡ cap (numberAt (now (s .entry)) at end) ⌝ }
 {
     let mut i = at;
@@ -96,26 +96,6 @@ fn number_at(s: &[u8], at: usize, end: u8) -> Number
         i += 1;
     }
     Number::Bad
-}
-
-// The number that stands behind `prior`, a key or another number, and is ended by the byte `end`.
-pub fn after(s: &[u8], prior: Number, end: u8) -> Number
-    ensures { λ r. ⌜ r ≡ cap (after (now (s .entry)) prior end) ⌝ }
-{
-    let Number::Value(_, i) = prior else {
-        return Number::Bad;
-    };
-    number_at(s, i, end)
-}
-
-// The value, 0 of a bad number.
-pub fn value_of(n: Number) -> u32
-    ensures { λ r. ⌜ r ≡ valueOf n ⌝ }
-{
-    match n {
-        Number::Value(v, _) => v,
-        Number::Bad => 0,
-    }
 }
 
 fn newline(b: u8) -> usize

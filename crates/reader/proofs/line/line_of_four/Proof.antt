@@ -1,56 +1,48 @@
--- `line_of_four` meets its contract: a fault is kept, and the parts of a line make up its definition.
-use native.Mathlib.Omega.{arith}
-use Rattle.reader.proofs.Judging.{four-kept, four-read}
+-- `line_of_four` meets its contract: its steps are those of the definition.
 use borrow.Author.Needs.{needs}
+use Rattle.reader.specs.Line.{lineOfFour}
+use Rattle.reader.proofs.Chains.{four-read}
 use Rattle.reader.proofs.line.line_of_four.Statement.{statement}
 use Rattle.reader.proofs.line.line_of_four.Tie as tie
 
-enum-known-prior : tie.Need-enum-known-prior
-enum-known-prior c = search needs
+begin-line-requires : tie.Need-begin-line-requires
+begin-line-requires c κs = search needs
 
-enum-told : tie.Need-enum-told
-enum-told c = search needs
+take-number-requires : tie.Need-take-number-requires
+take-number-requires c κs = search needs
+
+take-number-requires-2 : tie.Need-take-number-requires-2
+take-number-requires-2 c κs = search needs
+
+take-number-requires-3 : tie.Need-take-number-requires-3
+take-number-requires-3 c κs = search needs
+
+take-number-requires-4 : tie.Need-take-number-requires-4
+take-number-requires-4 c κs = search needs
+
+end-line-requires : tie.Need-end-line-requires
+end-line-requires c κs = search needs
 
 returns : tie.Need-returns
-returns c = four-kept _ _ _ _ _ _ (c .enum-told .given .1)
-
-key-at-requires : tie.Need-key-at-requires
-key-at-requires c κs = search needs
-
-after-requires : tie.Need-after-requires
-after-requires c κs = search needs
-
-after-requires-2 : tie.Need-after-requires-2
-after-requires-2 c κs = search needs
-
-after-requires-3 : tie.Need-after-requires-3
-after-requires-3 c κs = search needs
-
-after-requires-4 : tie.Need-after-requires-4
-after-requires-4 c κs = search needs
-
-judge-four-requires : tie.Need-judge-four-requires
-judge-four-requires c κs = search needs
-
-returns-2 : tie.Need-returns-2
-returns-2 c =
-    let key = c .before .before .before .before .before in
-    let start = key .before .before .before .before .before .before in
-    four-read _ _ _ _ _ _ _ (omega (arith, start .fits)) (omega (arith, start .fits)) (key .before .before .prior .given .1) _ _ _ _ _ _
-    (key .key-at .ensures) (c .before .before .before .before .after .ensures) (c .before .before .before .after2 .ensures)
-    (c .before .before .after3 .ensures) (c .before .after4 .ensures) (c .judge-four .ensures)
+unfolding lineOfFour
+returns c = rw (
+  c .end-line .ensures,
+  c .before .take-number4 .ensures,
+  c .before .before .take-number3 .ensures,
+  c .before .before .before .take-number2 .ensures,
+  c .before .before .before .before .take-number .ensures,
+  c .before .before .before .before .before .begin-line .ensures,
+)
+    (four-read _ _ _ _ _)
 
 pub line-of-four-spec : {M : Type 1} → statement M
 line-of-four-spec =
     tie.close
     (tie.spec
-    enum-known-prior
-    enum-told
-    returns
-    key-at-requires
-    after-requires
-    after-requires-2
-    after-requires-3
-    after-requires-4
-    judge-four-requires
-    returns-2)
+    begin-line-requires
+    take-number-requires
+    take-number-requires-2
+    take-number-requires-3
+    take-number-requires-4
+    end-line-requires
+    returns)
