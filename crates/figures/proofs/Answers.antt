@@ -17,7 +17,6 @@ use Rattle.plan.specs.WellFormed.{WellFormed}
 use Rattle.plan.specs.Size.{size, loopRoom, roomy}
 use Rattle.plan.specs.Tour.{IsLasso, Hard}
 use Rattle.plan.specs.Cost.{KeptIs, cost, Best}
-use Rattle.plan.specs.Refusal as refused
 use Rattle.plan.specs.declared.Plan.{Plan}
 use Rattle.plan.specs.declared.Refusal.the-variants as cause
 use Rattle.reader.specs.Reading.{readPlan}
@@ -49,12 +48,10 @@ module _ (p : Plan) {runin loop runin′ loop′ : List ℕ} {a : Answer} where
       }
 
   planned-none : NoTour p → Planned p runin loop runin′ loop′ a → Tells (refusal 6) a
-  unfolding refused.number refused.lineOf
   planned-none without (none n e r l) = rw e (record { number = refl; line = refl; cost = refl; kept = refl; count = refl })
   planned-none without (found t) = absurd (without (t .stem) (t .cycle) (t .lasso) (t .hard))
 
 refused-short : {runin loop runin′ loop′ : List ℕ} {a : Answer} → Refused cause.BufferTooShort runin loop runin′ loop′ a → Tells (refusal 5) a
-unfolding refused.number refused.lineOf
 refused-short t = rw (t .answer) (record { number = refl; line = refl; cost = refl; kept = refl; count = refl })
 
 -- ---- buffers

@@ -2,22 +2,21 @@
 --   number r == the number of the cause
 --   lineOf r == the line that is returned, from 1; 0 where the table returns none
 use Prim.Native.Nat.{ℕ}
+use Rattle.text.specs.Fault as fault
 use Rattle.plan.specs.declared.Refusal.{Refusal}
-use Rattle.plan.specs.declared.Refusal.the-variants.{PlanTooLong, Form, Range, ProductTooLarge, BufferTooShort, NoTour, BlockTooShort}
+use Rattle.plan.specs.declared.Refusal.the-variants.{PlanTooLong, Line, ProductTooLarge, BufferTooShort, NoTour, BlockTooShort}
 
-unfoldable pub number : Refusal → ℕ
+abbrev pub number : Refusal → ℕ
 number PlanTooLong = 1
-number (Form line) = 2
-number (Range line) = 3
+number (Line f) = fault.number f
 number ProductTooLarge = 4
 number BufferTooShort = 5
 number NoTour = 6
 number BlockTooShort = 7
 
-unfoldable pub lineOf : Refusal → ℕ
+abbrev pub lineOf : Refusal → ℕ
 lineOf PlanTooLong = 0
-lineOf (Form line) = line
-lineOf (Range line) = line
+lineOf (Line f) = fault.lineOf f
 lineOf ProductTooLarge = 0
 lineOf BufferTooShort = 0
 lineOf NoTour = 0

@@ -7,6 +7,9 @@ ghost use Rattle.plan.specs.Cost.{keeps, costOf};
 ghost use Rattle.plan.specs.Key.{tie, keyOf};
 ghost use Rattle.plan.specs.Refusal.{number, lineOf};
 use automata::Automaton;
+use text::fault::Fault;
+use text::fault::fault_line;
+use text::fault::fault_number;
 
 // A plan by value. Place v, for v below `places`, has the label labels[v]; road i, for i below `roads`, goes from place
 // from[i] to place to[i]; soft rule i + 1 of the file, for i below `rules`, is soft[i] with the weight weights[i].
@@ -27,8 +30,7 @@ pub struct Plan {
 // Why a plan is turned away; what it is numbered, and with which line it comes, is said in specs/Refusal.
 pub enum Refusal {
     PlanTooLong,
-    Form(u32),
-    Range(u32),
+    Line(Fault),
     ProductTooLarge,
     BufferTooShort,
     NoTour,
@@ -41,8 +43,7 @@ pub fn refusal_number(refusal: Refusal) -> u32
 {
     match refusal {
         Refusal::PlanTooLong => 1,
-        Refusal::Form(_) => 2,
-        Refusal::Range(_) => 3,
+        Refusal::Line(fault) => fault_number(fault),
         Refusal::ProductTooLarge => 4,
         Refusal::BufferTooShort => 5,
         Refusal::NoTour => 6,
@@ -51,13 +52,12 @@ pub fn refusal_number(refusal: Refusal) -> u32
 }
 
 // The line that comes with it, 0 where there is none.
-pub fn refusal_line(refusal: Refusal) -> u32
+pub fn refusal_line(refusal: Refusal) -> usize
     ensures { λ r. ⌜ r ≡ lineOf refusal ⌝ }
 {
     match refusal {
         Refusal::PlanTooLong => 0,
-        Refusal::Form(line) => line,
-        Refusal::Range(line) => line,
+        Refusal::Line(fault) => fault_line(fault),
         Refusal::ProductTooLarge => 0,
         Refusal::BufferTooShort => 0,
         Refusal::NoTour => 0,

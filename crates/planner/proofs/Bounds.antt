@@ -49,12 +49,10 @@ module _ (p : Plan) {runin loop runin′ loop′ : List ℕ} {a : Answer} where
   })
 
   planned-narrow : WellFormed p → size p ≤ 2048 → Planned p runin loop runin′ loop′ a → Narrow a
-  unfolding refused.number refused.lineOf
   planned-narrow ok small (none n e r l) = refusal-narrow refusal.NoTour a e (omega arith) (omega arith)
   planned-narrow ok small (tour t) = tour-narrow ok small t
 
   planned-number : Planned p runin loop runin′ loop′ a → a .number ≢ 5
-  unfolding refused.number
   planned-number (none n e r l) f = omega (arith, ap (λ x. x .number) e)
   planned-number (tour t) f = omega (arith, ap (λ x. x .number) (t .answer))
 
@@ -64,7 +62,7 @@ module _ (runin loop runin′ loop′ : List ℕ) (a : Answer) (r l : ℕ) where
   Says o p = Told (verdict o p r l) runin loop runin′ loop′ a
 
   verdict-narrow : (o : Outcome) (p : Plan) → number o ≤ 4 → lineOf o ≤ 60001 → (o ≡ outcome.Plan → WellFormed p × (size p ≤ 2048)) → Says o p → Narrow a
-  unfolding Says verdict Told number lineOf refused.number refused.lineOf
+  unfolding Says verdict Told
   verdict-narrow (outcome.Refused x) p low early ok t = refusal-narrow x a (t .answer) (omega arith) early
   verdict-narrow outcome.Plan p low early ok t = by (roomy p r l) t
     where
@@ -73,7 +71,7 @@ module _ (runin loop runin′ loop′ : List ℕ) (a : Answer) (r l : ℕ) where
       by false t = refusal-narrow refusal.BufferTooShort a (t .answer) (omega arith) (omega arith)
 
   verdict-number : (o : Outcome) (p : Plan) → number o ≤ 4 → (o ≡ outcome.Plan → roomy p r l ≡ true) → Says o p → a .number ≢ 5
-  unfolding Says verdict Told number
+  unfolding Says verdict Told
   verdict-number (outcome.Refused x) p low room t f = omega (arith, ap (λ y. y .number) (t .answer))
   verdict-number outcome.Plan p low room t f = planned-number p (rw (room refl) at t) f
 

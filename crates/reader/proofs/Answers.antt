@@ -1,27 +1,29 @@
 -- What the parts of a plan file come to: the draft of its lines, and the answer, case by case. The size is judged on the product
 -- held at 2,049, which is above 2,048 exactly where the product is.
-use mathlib.Core.Path.{_≡_, refl}
+use mathlib.Core.Path.{_≡_, refl, sym, ap, _∙_}
 use mathlib.Core.Bool.{Bool, true, false}
 use mathlib.Core.List.{List}
-use Prim.Native.Nat.{ℕ, _+_, _^_, _≤_, _<_, min}
+use Prim.Native.Nat.{ℕ, _^_, _≤_, _<_, min}
 use native.Mathlib.Omega.{arith}
 use lib.ListN.{length}
 use lib.Dec.{ltb}
 use borrow.Author.Tests.{lt-ltb, le-ltb, ltb-false}
+use Rattle.text.specs.Fault as fault
+use Rattle.text.specs.declared.fault.Fault.{Fault}
+use Rattle.text.specs.declared.fault.Fault.the-variants.{Form, Range}
 use Rattle.plan.specs.Size.{size}
 use Rattle.plan.specs.Refusal as refusal
 use Rattle.plan.specs.declared.Plan.{Plan}
-use Rattle.plan.specs.declared.Refusal.the-variants.{PlanTooLong, ProductTooLarge}
+use Rattle.plan.specs.declared.Refusal.{Refusal}
+use Rattle.plan.specs.declared.Refusal.the-variants as cause
 use Rattle.reader.specs.Keys.{rulesKey}
 use Rattle.reader.specs.Line.{lineOfOne, firstOf, finish}
 use Rattle.reader.specs.Blocks.{hardBlock, softBlocks}
 use Rattle.reader.specs.Map.{mapOf}
-use Rattle.reader.specs.Outcome.{number, lineOf, faultNumber, faultLine}
-use Rattle.reader.specs.Reading.{draftOf, refusalOf, refuse, choose, admit, answer, readPlan}
+use Rattle.reader.specs.Outcome.{number, lineOf}
+use Rattle.reader.specs.Reading.{draftOf, refuse, choose, admit, answer, readPlan}
 use Rattle.reader.specs.declared.line.Numbers.{Numbers}
 use Rattle.reader.specs.declared.line.Cursor.{Cursor}
-use Rattle.reader.specs.declared.line.Fault.{Fault}
-use Rattle.reader.specs.declared.line.Fault.the-variants.{Form, Range}
 use Rattle.reader.specs.declared.line.Line.{Line}
 use Rattle.reader.specs.declared.line.Line.the-variants as line
 use Rattle.reader.specs.declared.block.AutomatonBlock.{AutomatonBlock}
@@ -32,19 +34,8 @@ use Rattle.reader.specs.declared.Outcome.the-variants as outcome
 use Rattle.reader.specs.declared.Reading.{Reading}
 use Rattle.reader.proofs.Sticky.{faultAt, draft-early}
 
--- a fault and its refusal have the same number and line
-pub same-number : (f : Fault) → refusal.number (refusalOf f) ≡ faultNumber f
-unfolding refusal.number refusalOf faultNumber
-same-number (Form n) = refl
-same-number (Range n) = refl
-
-pub same-line : (f : Fault) → refusal.lineOf (refusalOf f) ≡ faultLine f
-unfolding refusal.lineOf refusalOf
-same-line (Form n) = refl
-same-line (Range n) = refl
-
 module _ (p : Plan) where
-  pub too-large : (n : ℕ) → n ≡ min (size p) 2049 → 2048 < n → refuse ProductTooLarge ≡ admit p
+  pub too-large : (n : ℕ) → n ≡ min (size p) 2049 → 2048 < n → refuse cause.ProductTooLarge ≡ admit p
   unfolding admit
   too-large n e h = let k : 2048 < size p = omega arith in rw (lt-ltb 2048 (size p) k)
 
@@ -75,12 +66,12 @@ module _ (s : List ℕ) where
   unfolding draftOf
   draft-made m bound h count n x l e1 e2 e3 e4 e5 e6 e7 = rw (e7, e6, e5, e4, e3, e2, e1)
 
-  pub too-long : 60000 < length s → refuse PlanTooLong ≡ readPlan s
+  pub too-long : 60000 < length s → refuse cause.PlanTooLong ≡ readPlan s
   unfolding readPlan
   too-long h = rw (lt-ltb 60000 (length s) h)
 
   module _ (h : length s ≤ 60000) (d : Draft) (e : d ≡ draftOf s) where
-    pub faulty : (f : Fault) → d .line ≡ line.Fault f → refuse (refusalOf f) ≡ readPlan s
+    pub faulty : (f : Fault) → d .line ≡ line.Fault f → refuse (cause.Line f) ≡ readPlan s
     unfolding readPlan answer
     faulty f k = rw (le-ltb 60000 (length s) h, ← e, k)
 
@@ -88,40 +79,38 @@ module _ (s : List ℕ) where
     unfolding readPlan answer
     faultless xs c k = rw (le-ltb 60000 (length s) h, ← e, k)
 
-    -- the line of a fault fits a u32
-    pub line-fits : (f : Fault) → d .line ≡ line.Fault f → faultLine f ≤ 4294967295
-    line-fits f k =
-        let m : faultAt (d .line) ≤ length s + 1 = rw e (draft-early s) in
-        let z : faultLine f ≤ length s + 1 = rw k at m in
-        omega arith
-
 -- what is answered of a plan file: no number above 4, and no line beyond the one that may follow 60,000 line ends
 module _ (s : List ℕ) where
   admitted : (p : Plan) → (number (admit p .outcome) ≤ 4) × (lineOf (admit p .outcome) ≡ 0)
-  unfolding admit number lineOf refusal.number refusal.lineOf
+  unfolding admit
   admitted p = by (ltb 2048 (size p))
     where
-      by : (b : Bool) → (number (choose b (refuse ProductTooLarge) (record { outcome = outcome.Plan; plan = p }) .outcome) ≤ 4)
-          × (lineOf (choose b (refuse ProductTooLarge) (record { outcome = outcome.Plan; plan = p }) .outcome) ≡ 0)
+      by : (b : Bool) → (number (choose b (refuse cause.ProductTooLarge) (record { outcome = outcome.Plan; plan = p }) .outcome) ≤ 4)
+          × (lineOf (choose b (refuse cause.ProductTooLarge) (record { outcome = outcome.Plan; plan = p }) .outcome) ≡ 0)
       by true = (omega arith, refl)
       by false = (omega arith, refl)
 
-  fault-low : (f : Fault) → faultNumber f ≤ 4
-  unfolding faultNumber
+  fault-low : (f : Fault) → fault.number f ≤ 4
   fault-low (Form n) = omega arith
   fault-low (Range n) = omega arith
 
   answered : (l : Line) (p : Plan) → faultAt l ≤ 60001 → (number (answer l p .outcome) ≤ 4) × (lineOf (answer l p .outcome) ≤ 60001)
-  unfolding answer number lineOf
-  answered (line.Fault f) p h = (rw (same-number f) (fault-low f), rw (same-line f) h)
+  unfolding answer
+  answered (line.Fault f) p h = (fault-low f, h)
   answered (line.Numbers xs c) p h = (admitted p .0, omega (arith, admitted p .1))
 
   pub read-low : (number (readPlan s .outcome) ≤ 4) × (lineOf (readPlan s .outcome) ≤ 60001)
-  unfolding readPlan number lineOf refusal.number refusal.lineOf
+  unfolding readPlan
   read-low = by (ltb 60000 (length s)) refl
     where
       by : (b : Bool) → ltb 60000 (length s) ≡ b
-          → (number (choose b (refuse PlanTooLong) (answer (draftOf s .line) (draftOf s .plan)) .outcome) ≤ 4)
-          × (lineOf (choose b (refuse PlanTooLong) (answer (draftOf s .line) (draftOf s .plan)) .outcome) ≤ 60001)
+          → (number (choose b (refuse cause.PlanTooLong) (answer (draftOf s .line) (draftOf s .plan)) .outcome) ≤ 4)
+          × (lineOf (choose b (refuse cause.PlanTooLong) (answer (draftOf s .line) (draftOf s .plan)) .outcome) ≤ 60001)
       by true e = (omega arith, omega arith)
       by false e = answered (draftOf s .line) (draftOf s .plan) (omega (arith, draft-early s, ltb-false 60000 (length s) e))
+
+  -- the same line of a refusal that the reader answered
+  pub refused-early : (r : Reading) → r ≡ readPlan s → (x : Refusal) → r .outcome ≡ outcome.Refused x → refusal.lineOf x ≤ 60001
+  refused-early r same x e =
+      let o : readPlan s .outcome ≡ outcome.Refused x = ap (λ y. y .outcome) (sym same) ∙ e in
+      rw o at (read-low .1)

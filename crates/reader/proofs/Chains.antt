@@ -20,13 +20,13 @@ use Rattle.text.specs.Scan.{keyAt, numberAt, cap, lineAt}
 use Rattle.text.specs.declared.read.Number.{Number}
 use Rattle.text.specs.declared.read.Number.the-variants.{Value, Bad}
 use Rattle.reader.specs.Line.{within, choose, blank, noted, opened, beginLine, grown, passed, takeNumber, endLine, lineOfOne, lineOfTwo, lineOfFour, numberOf, OneRead, TwoRead, FourRead}
-use Rattle.reader.specs.Outcome.{faultLine}
+use Rattle.text.specs.Fault as fault
 use Rattle.reader.specs.declared.line.Numbers.{Numbers}
 use Rattle.reader.specs.declared.line.Cursor.{Cursor}
 use Rattle.reader.specs.declared.line.Span.{Span}
 use Rattle.reader.specs.declared.line.Chain.{Chain}
 use Rattle.reader.specs.declared.line.Chain.the-variants as chain
-use Rattle.reader.specs.declared.line.Fault.{Fault}
+use Rattle.text.specs.declared.fault.Fault.{Fault}
 use Rattle.reader.specs.declared.line.Line.{Line}
 use Rattle.reader.specs.declared.line.Line.the-variants as line
 
@@ -86,7 +86,7 @@ good (line.Fault f) = false
 
 pub data Fails (s : List ℕ) (l : Line) (f : Fault) : Type 0 where
   before : l ≡ line.Fault f → Fails s l f
-  here : (at : ℕ) → faultLine f ≡ lineAt s at → Fails s l f
+  here : (at : ℕ) → fault.lineOf f ≡ lineAt s at → Fails s l f
 
 abbrev pub Led : List ℕ → (Numbers → Type 0) → Line → Line → Type 0
 Led s Q l (line.Numbers xs c) = (good l ≡ true) × Q xs

@@ -7,15 +7,14 @@ use native.Mathlib.Omega.{arith}
 use lib.ListN.{length}
 use lib.Dec.{ltb}
 use Rattle.text.specs.Scan.{lineAt}
+use Rattle.text.specs.Fault as fault
 use Rattle.reader.specs.Line.{choose, lineOfOne, lineOfTwo, lineOfFour, firstOf, top, finish}
 use Rattle.reader.specs.Keys.{tourKey, marksKey, placesKey, startKey, roadsKey, firstKey, acceptKey, movesKey, hardKey, rulesKey, softKey, weightKey}
 use Rattle.reader.specs.Blocks.{repeat, Filling, labelStep, labelBlock, roadStep, roadBlock, moveStep, moveBlock, automatonBlock, hardBlock, softBlock, softStep, softBlocks}
 use Rattle.reader.specs.Map.{mapOf}
 use Rattle.reader.specs.Reading.{draftOf}
-use Rattle.reader.specs.Outcome.{faultLine}
+use Rattle.text.specs.declared.fault.Fault.the-variants.{Form}
 use Rattle.reader.specs.declared.line.Numbers.{Numbers}
-use Rattle.reader.specs.declared.line.Fault.{Fault}
-use Rattle.reader.specs.declared.line.Fault.the-variants.{Form}
 use Rattle.reader.specs.declared.line.Line.{Line}
 use Rattle.reader.specs.declared.line.Line.the-variants as line
 use Rattle.reader.specs.declared.block.LabelBlock.{LabelBlock}
@@ -75,7 +74,7 @@ module _ (s : List ℕ) (P : Line → Type 0) (k : Sticky s P) where
 -- a fault's line, 0 where there is none
 abbrev pub faultAt : Line → ℕ
 faultAt (line.Numbers xs c) = 0
-faultAt (line.Fault f) = faultLine f
+faultAt (line.Fault f) = fault.lineOf f
 
 module _ (s : List ℕ) where
   abbrev Early : Line → Type 0

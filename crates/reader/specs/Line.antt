@@ -27,6 +27,7 @@ use Prim.Native.Nat.{ℕ, _-_, _≤_}
 use lib.ListN.{length}
 use lib.Dec.{ltb, eqb}
 use Rattle.text.specs.Scan.{keyAt, numberAt, lineAt}
+use Rattle.text.specs.declared.fault.Fault.the-variants.{Form, Range}
 use Rattle.text.specs.declared.read.Number.{Number}
 use Rattle.text.specs.declared.read.Number.the-variants.{Value, Bad}
 use Rattle.reader.specs.declared.line.Numbers.{Numbers}
@@ -35,7 +36,6 @@ use Rattle.reader.specs.declared.line.Chain.{Chain}
 use Rattle.reader.specs.declared.line.Chain.the-variants as chain
 use Rattle.reader.specs.declared.line.Line.{Line}
 use Rattle.reader.specs.declared.line.Line.the-variants as line
-use Rattle.reader.specs.declared.line.Fault.the-variants.{Form, Range}
 
 unfoldable pub within : ℕ → ℕ → ℕ → Bool
 within x low bound = cond (ltb x low) false (ltb x bound)

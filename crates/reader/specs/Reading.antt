@@ -1,7 +1,6 @@
 -- The whole plan file (01, "The plan file" and "Why a plan is turned away").
 --   draftOf s         == what all lines of s come to: the last of them or the first fault, and the plan that they make
 --   DraftRead given r == r is the draft `given`; it has at most 8 soft rules
---   refusalOf f       == the refusal that a line's fault comes to
 --   refuse r          == the answer that turns a plan away: the cause, and an empty plan
 --   choose t a b      == a if t, and b if not
 --   admit p           == the plan p, unless its product is too large
@@ -22,8 +21,6 @@ use Rattle.reader.specs.Keys.{rulesKey}
 use Rattle.reader.specs.Line.{lineOfOne, firstOf, finish}
 use Rattle.reader.specs.Blocks.{hardBlock, softBlocks}
 use Rattle.reader.specs.Map.{mapOf}
-use Rattle.reader.specs.declared.line.Fault.{Fault}
-use Rattle.reader.specs.declared.line.Fault.the-variants.{Form, Range}
 use Rattle.reader.specs.declared.line.Line.{Line}
 use Rattle.reader.specs.declared.line.Line.the-variants as line
 use Rattle.reader.specs.declared.Draft.{Draft}
@@ -58,10 +55,6 @@ pub record DraftRead (given r : Draft) : Type 0 where
   pub same : r ≡ given
   pub rules : r .plan .rules ≤ 8
 
-unfoldable pub refusalOf : Fault → Refusal
-refusalOf (Form n) = refusal.Form n
-refusalOf (Range n) = refusal.Range n
-
 abbrev pub refuse : Refusal → Reading
 refuse r = record { outcome = outcome.Refused r; plan = noPlan }
 
@@ -73,7 +66,7 @@ unfoldable pub admit : Plan → Reading
 admit p = choose (ltb 2048 (size p)) (refuse refusal.ProductTooLarge) (record { outcome = outcome.Plan; plan = p })
 
 unfoldable pub answer : Line → Plan → Reading
-answer (line.Fault f) p = refuse (refusalOf f)
+answer (line.Fault f) p = refuse (refusal.Line f)
 answer (line.Numbers xs c) p = admit p
 
 unfoldable pub readPlan : List ℕ → Reading

@@ -8,7 +8,6 @@ use block::hard_block;
 use block::label_count;
 use block::no_automaton;
 use block::soft_blocks;
-use line::Fault;
 use line::Line;
 use line::finish;
 use line::first_of;
@@ -22,8 +21,8 @@ use size::held_size;
 ghost use mathlib.Core.Path.{_≡_};
 ghost use Prim.Native.Nat.{_≤_};
 ghost use Rattle.plan.specs.WellFormed.{noPlan};
-ghost use Rattle.reader.specs.Reading.{draftOf, DraftRead, refusalOf, refuse, admit, readPlan};
-ghost use Rattle.reader.specs.Outcome.{number, lineOf, faultLine};
+ghost use Rattle.reader.specs.Reading.{draftOf, DraftRead, refuse, admit, readPlan};
+ghost use Rattle.reader.specs.Outcome.{number, lineOf};
 
 // What the lines of a whole plan file come to: the last line or the first fault, and the plan, which stands if there is none.
 pub struct Draft {
@@ -106,16 +105,6 @@ fn refuse(refusal: Refusal) -> Reading
     Reading { outcome, plan }
 }
 
-fn refusal_of(fault: Fault) -> Refusal
-    requires { ⌜ faultLine fault ≤ 4294967295 ⌝ }
-    ensures { λ r. ⌜ r ≡ refusalOf fault ⌝ }
-{
-    match fault {
-        Fault::Form(line) => Refusal::Form(line as u32),
-        Fault::Range(line) => Refusal::Range(line as u32),
-    }
-}
-
 // The plan, unless its product is too large.
 fn admit(plan: Plan) -> Reading
     requires { ⌜ plan .rules ≤ 8 ⌝ }
@@ -141,7 +130,7 @@ pub fn read_plan(s: &[u8]) -> Reading
     let Line::Fault(fault) = line else {
         return admit(plan);
     };
-    refuse(refusal_of(fault))
+    refuse(Refusal::Line(fault))
 }
 
 // The number of the cause, 0 for a plan.
@@ -155,7 +144,7 @@ pub fn outcome_number(outcome: Outcome) -> u32
 }
 
 // The line that comes with it, 0 where there is none.
-pub fn outcome_line(outcome: Outcome) -> u32
+pub fn outcome_line(outcome: Outcome) -> usize
     ensures { λ r. ⌜ r ≡ lineOf outcome ⌝ }
 {
     match outcome {

@@ -1,5 +1,6 @@
 //! Lines of a plan file: their numbers with the next cursor, or their fault. A line is read behind the line before it; once a
 //! line has a fault, every later one is that fault again, so a sequence of lines has no branch. So it is with the steps of a line.
+use text::fault::Fault;
 use text::read::Number;
 use text::read::key_at;
 use text::read::line_at;
@@ -18,12 +19,6 @@ pub struct Numbers {
     pub second: u32,
     pub third: u32,
     pub fourth: u32,
-}
-
-// What is wrong with a line, and which line it is, from 1.
-pub enum Fault {
-    Form(usize),
-    Range(usize),
 }
 
 pub enum Line {

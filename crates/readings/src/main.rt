@@ -10,7 +10,7 @@ fn wide(x: u32) -> u64 {
 fn print_outcome(outcome: Outcome) {
     io::print_decimal(STDOUT_FILENO, wide(reader::outcome_number(outcome)));
     io::write_all(STDOUT_FILENO, b" ");
-    io::print_decimal(STDOUT_FILENO, wide(reader::outcome_line(outcome)));
+    io::print_decimal(STDOUT_FILENO, reader::outcome_line(outcome) as u64);
     io::write_all(STDOUT_FILENO, b"\n");
 }
 

@@ -8,8 +8,7 @@ fn wide(x: u32) -> u64 {
 
 pub fn refusal(outcome: Outcome) {
     io::print_decimal(STDOUT_FILENO, wide(reader::outcome_number(outcome)));
-    io::write_all(STDOUT_FILENO, b" ");
-    io::print_decimal(STDOUT_FILENO, wide(reader::outcome_line(outcome)));
+    next(reader::outcome_line(outcome));
 }
 
 // The number that a line begins with.

@@ -1,4 +1,5 @@
 pub mod Scan
+pub mod Fault
 pub mod Over
 pub mod Decimal
 pub mod KeyLine

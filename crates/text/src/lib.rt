@@ -1,3 +1,4 @@
-//! Texts of keys, decimal numbers and lines: how they are read, and how they are written.
+//! Texts of keys, decimal numbers and lines: how they are read, what is wrong with a line, and how they are written.
+pub mod fault;
 pub mod read;
 pub mod write;

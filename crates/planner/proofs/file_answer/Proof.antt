@@ -1,4 +1,6 @@
 -- `file_answer` meets its contract: a plan that was read is well formed and small, and a refusal is told as it is.
+use native.Mathlib.Omega.{arith}
+use Rattle.reader.proofs.Answers.{refused-early}
 use Rattle.reader.proofs.WellRead.{read-ok}
 use Rattle.planner.proofs.Verdicts.{read-told, refused-told}
 use borrow.Author.Needs.{needs}
@@ -18,7 +20,7 @@ enum-known-outcome : tie.Need-enum-known-outcome
 enum-known-outcome c = search needs
 
 refusal-answer-requires : tie.Need-refusal-answer-requires
-refusal-answer-requires c κs = search needs
+refusal-answer-requires c κs = omega (arith, refused-early (c .before .before .before .before .before .before .before .before .args .plan .now) _ (c .before .before .before .before .read-plan .ensures) _ (c .before .outcome .given .1))
 
 same-length : tie.Need-same-length
 same-length c = search needs

@@ -1,4 +1,4 @@
--- `refusal_answer` meets its contract: number and line are the refusal's own.
+-- `refusal_answer` meets its contract: number and line are the refusal's own, and the line fits by what is required.
 use mathlib.Core.Path.{ap₂}
 use borrow.Author.Needs.{needs}
 use Prim.Native.Nat.{ℕ}
@@ -15,8 +15,11 @@ refusal-number-requires c κs = search needs
 refusal-line-requires : tie.Need-refusal-line-requires
 refusal-line-requires c κs = search needs
 
+cast-t4 : tie.Need-cast-t4
+cast-t4 c = search needs
+
 returns : tie.Need-returns
 returns c = ap₂ told (c .before .refusal-number .ensures) (c .refusal-line .ensures)
 
 pub refusal-answer-spec : {M : Type 1} → statement M
-refusal-answer-spec = tie.close (tie.spec refusal-number-requires refusal-line-requires returns)
+refusal-answer-spec = tie.close (tie.spec refusal-number-requires refusal-line-requires cast-t4 returns)

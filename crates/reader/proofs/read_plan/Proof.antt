@@ -1,6 +1,6 @@
 -- `read_plan` meets its contract: each return is one case of its definition.
 use mathlib.Core.Path.{_∙_}
-use Rattle.reader.proofs.Answers.{too-long, faulty, faultless, line-fits}
+use Rattle.reader.proofs.Answers.{too-long, faulty, faultless}
 use borrow.Author.Needs.{needs}
 use Rattle.reader.proofs.read_plan.Statement.{statement}
 use Rattle.reader.proofs.read_plan.Tie as tie
@@ -28,19 +28,13 @@ returns-2 c =
     let read = c .before .before .before .before in
     c .admit .ensures ∙ faultless _ (read .before .if1 .left) _ (read .read-lines .ensures .same) _ _ (c .before .enum-told .given .1)
 
-refusal-of-requires : tie.Need-refusal-of-requires
-refusal-of-requires c κs =
-    let read = c .before .before .before .before in
-    line-fits _ (read .before .if1 .left) _ (read .read-lines .ensures .same) _ (c .before .line .given .1)
-
 refuse-requires-2 : tie.Need-refuse-requires-2
 refuse-requires-2 c κs = search needs
 
 returns-3 : tie.Need-returns-3
 returns-3 c =
-    let read = c .before .before .before .before .before .before in
-    c .refuse2 .ensures
-    ∙ rw (c .before .refusal-of .ensures) (faulty _ (read .before .if1 .left) _ (read .read-lines .ensures .same) _ (c .before .before .before .line .given .1))
+    let read = c .before .before .before .before .before in
+    c .refuse2 .ensures ∙ faulty _ (read .before .if1 .left) _ (read .read-lines .ensures .same) _ (c .before .before .line .given .1)
 
 pub read-plan-spec : {M : Type 1} → statement M
 read-plan-spec =
@@ -53,6 +47,5 @@ read-plan-spec =
     enum-told
     admit-requires
     returns-2
-    refusal-of-requires
     refuse-requires-2
     returns-3)
