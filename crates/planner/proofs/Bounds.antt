@@ -2,7 +2,7 @@
 --   told-narrow == each has room in its bytes of the answer block
 --   never-short == with buffers of 2,048 and 20,480 bytes refusal 5 is never given
 use mathlib.Core.Path.{_≡_, refl, ap}
-use mathlib.Core.Bool.{Bool, true, false}
+use mathlib.Core.Bool.{Bool, true, false, cond}
 use mathlib.Core.List.{List}
 use mathlib.Core.Logic.{_≢_}
 use Prim.Native.Nat.{ℕ, _≤_}
@@ -25,7 +25,7 @@ use Rattle.reader.proofs.Answers.{read-low}
 use Rattle.reader.proofs.WellRead.{read-ok}
 use Rattle.answer.specs.Block.{Narrow}
 use Rattle.answer.specs.declared.Answer.{Answer}
-use Rattle.planner.specs.Promise.{verdict, choose, refuse, go, refusalAnswer, TourOf, Planned, none, tour, Told}
+use Rattle.planner.specs.Promise.{verdict, refuse, go, refusalAnswer, TourOf, Planned, none, tour, Told}
 use Rattle.planner.proofs.Steps.{cost-small}
 
 counted-le : {P : ℕ → Type 0} {n c : ℕ} → Counted P n c → c ≤ n
@@ -66,7 +66,7 @@ module _ (runin loop runin′ loop′ : List ℕ) (a : Answer) (r l : ℕ) where
   verdict-narrow (outcome.Refused x) p low early ok t = refusal-narrow x a (t .answer) (omega arith) early
   verdict-narrow outcome.Plan p low early ok t = by (roomy p r l) t
     where
-      by : (b : Bool) → Told (choose b (go p) (refuse refusal.BufferTooShort)) runin loop runin′ loop′ a → Narrow a
+      by : (b : Bool) → Told (cond b (go p) (refuse refusal.BufferTooShort)) runin loop runin′ loop′ a → Narrow a
       by true t = planned-narrow p (ok refl .0) (ok refl .1) t
       by false t = refusal-narrow refusal.BufferTooShort a (t .answer) (omega arith) (omega arith)
 

@@ -11,7 +11,7 @@
 --   Refused x runin loop runin′ loop′ a == refusal x is answered, and no byte has changed
 --   Told v runin loop runin′ loop′ a    == one of the two, as the verdict says
 use mathlib.Core.Path.{_≡_}
-use mathlib.Core.Bool.{Bool, true, false}
+use mathlib.Core.Bool.{cond}
 use mathlib.Core.List.{List, _++_}
 use Prim.Native.Nat.{ℕ, _≤_}
 use lib.Count.{ones}
@@ -31,13 +31,9 @@ pub data Verdict : Type 0 where
   refuse : Refusal → Verdict
   go : Plan → Verdict
 
-abbrev pub choose : Bool → Verdict → Verdict → Verdict
-choose true a b = a
-choose false a b = b
-
 unfoldable pub verdict : Outcome → Plan → ℕ → ℕ → Verdict
 verdict (outcome.Refused x) p r l = refuse x
-verdict outcome.Plan p r l = choose (roomy p r l) (go p) (refuse refusal.BufferTooShort)
+verdict outcome.Plan p r l = cond (roomy p r l) (go p) (refuse refusal.BufferTooShort)
 
 abbrev pub refusalAnswer : Refusal → Answer
 refusalAnswer x = record { number = number x; line = lineOf x; cost = 0; kept = 0; count = 0; stem = 0; cycle = 0 }

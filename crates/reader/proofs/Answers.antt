@@ -1,7 +1,7 @@
 -- What the parts of a plan file come to: the draft of its lines, and the answer, case by case. The size is judged on the product
 -- held at 2,049, which is above 2,048 exactly where the product is.
 use mathlib.Core.Path.{_≡_, refl, sym, ap, _∙_}
-use mathlib.Core.Bool.{Bool, true, false}
+use mathlib.Core.Bool.{Bool, true, false, cond}
 use mathlib.Core.List.{List}
 use Prim.Native.Nat.{ℕ, _^_, _≤_, _<_, min}
 use native.Mathlib.Omega.{arith}
@@ -21,7 +21,7 @@ use Rattle.reader.specs.Line.{lineOfOne, firstOf, finish}
 use Rattle.reader.specs.Blocks.{hardBlock, softBlocks}
 use Rattle.reader.specs.Map.{mapOf}
 use Rattle.reader.specs.Outcome.{number, lineOf}
-use Rattle.reader.specs.Reading.{draftOf, refuse, choose, admit, answer, readPlan}
+use Rattle.reader.specs.Reading.{draftOf, refuse, admit, answer, readPlan}
 use Rattle.reader.specs.declared.line.Numbers.{Numbers}
 use Rattle.reader.specs.declared.line.Cursor.{Cursor}
 use Rattle.reader.specs.declared.line.Line.{Line}
@@ -85,8 +85,8 @@ module _ (s : List ℕ) where
   unfolding admit
   admitted p = by (ltb 2048 (size p))
     where
-      by : (b : Bool) → (number (choose b (refuse cause.ProductTooLarge) (record { outcome = outcome.Plan; plan = p }) .outcome) ≤ 4)
-          × (lineOf (choose b (refuse cause.ProductTooLarge) (record { outcome = outcome.Plan; plan = p }) .outcome) ≡ 0)
+      by : (b : Bool) → (number (cond b (refuse cause.ProductTooLarge) (record { outcome = outcome.Plan; plan = p }) .outcome) ≤ 4)
+          × (lineOf (cond b (refuse cause.ProductTooLarge) (record { outcome = outcome.Plan; plan = p }) .outcome) ≡ 0)
       by true = (omega arith, refl)
       by false = (omega arith, refl)
 
@@ -104,8 +104,8 @@ module _ (s : List ℕ) where
   read-low = by (ltb 60000 (length s)) refl
     where
       by : (b : Bool) → ltb 60000 (length s) ≡ b
-          → (number (choose b (refuse cause.PlanTooLong) (answer (draftOf s .line) (draftOf s .plan)) .outcome) ≤ 4)
-          × (lineOf (choose b (refuse cause.PlanTooLong) (answer (draftOf s .line) (draftOf s .plan)) .outcome) ≤ 60001)
+          → (number (cond b (refuse cause.PlanTooLong) (answer (draftOf s .line) (draftOf s .plan)) .outcome) ≤ 4)
+          × (lineOf (cond b (refuse cause.PlanTooLong) (answer (draftOf s .line) (draftOf s .plan)) .outcome) ≤ 60001)
       by true e = (omega arith, omega arith)
       by false e = answered (draftOf s .line) (draftOf s .plan) (omega (arith, draft-early s, ltb-false 60000 (length s) e))
 

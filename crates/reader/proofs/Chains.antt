@@ -19,7 +19,7 @@ use borrow.Author.Tests.{ltb-true, ltb-false, le-ltb}
 use Rattle.text.specs.Scan.{keyAt, numberAt, cap, lineAt}
 use Rattle.text.specs.declared.read.Number.{Number}
 use Rattle.text.specs.declared.read.Number.the-variants.{Value, Bad}
-use Rattle.reader.specs.Line.{within, choose, blank, noted, opened, beginLine, grown, passed, takeNumber, endLine, lineOfOne, lineOfTwo, lineOfFour, numberOf, OneRead, TwoRead, FourRead}
+use Rattle.reader.specs.Line.{within, blank, noted, opened, beginLine, grown, passed, takeNumber, endLine, lineOfOne, lineOfTwo, lineOfFour, numberOf, OneRead, TwoRead, FourRead}
 use Rattle.text.specs.Fault as fault
 use Rattle.reader.specs.declared.line.Numbers.{Numbers}
 use Rattle.reader.specs.declared.line.Cursor.{Cursor}
@@ -71,7 +71,7 @@ grown-cap s xs w k low bound (Value v i) h =
     further = record { from = w .from; next = i }
 
     by : (t : Bool) → (t ≡ true → min v 4294967295 ≡ v)
-        → choose t (chain.Fit (noted xs k (min v 4294967295)) further) (chain.Unfit further) ≡ choose t (chain.Fit (noted xs k v) further) (chain.Unfit further)
+        → cond t (chain.Fit (noted xs k (min v 4294967295)) further) (chain.Unfit further) ≡ cond t (chain.Fit (noted xs k v) further) (chain.Unfit further)
     by true e = rw (e refl)
     by false e = refl
 
@@ -114,7 +114,7 @@ module _ (s : List ℕ) where
     grown-led xs w (Value v i) g = by (within v low bound) refl
       where
         by : (t : Bool) → within v low bound ≡ t
-            → Led s R l (endLine s (choose t (chain.Fit (noted xs k v) (record { from = w .from; next = i })) (chain.Unfit (record { from = w .from; next = i }))))
+            → Led s R l (endLine s (cond t (chain.Fit (noted xs k v) (record { from = w .from; next = i })) (chain.Unfit (record { from = w .from; next = i }))))
         by true p = (g .0, put xs v (g .1) p)
         by false p = here (w .from) refl
 

@@ -1,6 +1,6 @@
 -- What every line keeps of the line before it, every block keeps, by induction on its count: that there is a fault, and that a
 -- fault's line is at most one above the text's length.
-use mathlib.Core.Bool.{Bool, true, false}
+use mathlib.Core.Bool.{Bool, true, false, cond}
 use mathlib.Core.List.{List}
 use Prim.Native.Nat.{ℕ, zero, suc, _+_, _^_, _≤_}
 use native.Mathlib.Omega.{arith}
@@ -8,7 +8,7 @@ use lib.ListN.{length}
 use lib.Dec.{ltb}
 use Rattle.text.specs.Scan.{lineAt}
 use Rattle.text.specs.Fault as fault
-use Rattle.reader.specs.Line.{choose, lineOfOne, lineOfTwo, lineOfFour, firstOf, top, finish}
+use Rattle.reader.specs.Line.{lineOfOne, lineOfTwo, lineOfFour, firstOf, top, finish}
 use Rattle.reader.specs.Keys.{tourKey, marksKey, placesKey, startKey, roadsKey, firstKey, acceptKey, movesKey, hardKey, rulesKey, softKey, weightKey}
 use Rattle.reader.specs.Blocks.{repeat, Filling, labelStep, labelBlock, roadStep, roadBlock, moveStep, moveBlock, automatonBlock, hardBlock, softBlock, softStep, softBlocks}
 use Rattle.reader.specs.Map.{mapOf}
@@ -97,7 +97,7 @@ module _ (s : List ℕ) where
   finish-early (line.Fault f) p = p
   finish-early (line.Numbers xs c) p = by-test (ltb (c .at) (length s))
     where
-      by-test : (t : Bool) → Early (choose t (line.Fault (Form (lineAt s (c .at)))) (line.Numbers xs c))
+      by-test : (t : Bool) → Early (cond t (line.Fault (Form (lineAt s (c .at)))) (line.Numbers xs c))
       by-test true = line-most s (c .at)
       by-test false = omega arith
 

@@ -2,7 +2,7 @@
 -- The answer is a plan only where the text is short enough, no line has a fault
 -- and the size is small; then every block was read without a fault.
 use mathlib.Core.Path.{_≡_, refl, sym, ap, _∙_, subst}
-use mathlib.Core.Bool.{Bool, true, false}
+use mathlib.Core.Bool.{Bool, true, false, cond}
 use mathlib.Core.List.{List}
 use Prim.Native.Nat.{ℕ, _^_, _≤_}
 use native.Mathlib.Omega.{arith}
@@ -18,7 +18,7 @@ use Rattle.reader.specs.Keys.{tourKey, marksKey, placesKey, startKey, ro
 use Rattle.reader.specs.Line.{lineOfOne, firstOf, top}
 use Rattle.reader.specs.Blocks.{labelBlock, roadBlock, hardBlock, softBlocks}
 use Rattle.reader.specs.Map.{mapOf}
-use Rattle.reader.specs.Reading.{draftOf, choose, refuse, admit, answer, readPlan}
+use Rattle.reader.specs.Reading.{draftOf, refuse, admit, answer, readPlan}
 use Rattle.reader.specs.declared.line.Line.{Line}
 use Rattle.reader.specs.declared.line.Line.the-variants as line
 use Rattle.reader.specs.declared.block.LabelBlock.{LabelBlock}
@@ -138,8 +138,8 @@ answer-plan (line.Fault f) p e = let z : _≡_ {A = ℕ} 0 1 = cc in absurd (ome
 answer-plan (line.Numbers xs c) p e = by-test (ltb 2048 (size p)) refl e
   where
     by-test : (t : Bool) → ltb 2048 (size p) ≡ t
-        → choose t (refuse ProductTooLarge) (record { outcome = outcome.Plan; plan = p }) .outcome ≡ outcome.Plan
-        → Passed (line.Numbers xs c) p (choose t (refuse ProductTooLarge) (record { outcome = outcome.Plan; plan = p }) .plan)
+        → cond t (refuse ProductTooLarge) (record { outcome = outcome.Plan; plan = p }) .outcome ≡ outcome.Plan
+        → Passed (line.Numbers xs c) p (cond t (refuse ProductTooLarge) (record { outcome = outcome.Plan; plan = p }) .plan)
     by-test true k e = let z : _≡_ {A = ℕ} 0 1 = cc in absurd (omega arith)
     by-test false k e = record { no-fault = refl; small = ltb-false 2048 (size p) k; same = refl }
 
@@ -149,8 +149,8 @@ module _ (s : List ℕ) (e : readPlan s .outcome ≡ outcome.Plan) where
   passed = by-test (ltb 60000 (length s)) e
     where
       by-test : (t : Bool)
-          → choose t (refuse PlanTooLong) (answer (draftOf s .line) (draftOf s .plan)) .outcome ≡ outcome.Plan
-          → Passed (draftOf s .line) (draftOf s .plan) (choose t (refuse PlanTooLong) (answer (draftOf s .line) (draftOf s .plan)) .plan)
+          → cond t (refuse PlanTooLong) (answer (draftOf s .line) (draftOf s .plan)) .outcome ≡ outcome.Plan
+          → Passed (draftOf s .line) (draftOf s .plan) (cond t (refuse PlanTooLong) (answer (draftOf s .line) (draftOf s .plan)) .plan)
       by-test true e = let z : _≡_ {A = ℕ} 0 1 = cc in absurd (omega arith)
       by-test false e = answer-plan (draftOf s .line) (draftOf s .plan) e
 

@@ -3,7 +3,6 @@
 -- a chain of steps: its key, then number after number. A number of bad form ends the chain with a fault; one out of its range is
 -- noted, and the fault is told at the end, so that form is judged before range.
 --   within x low bound                 == x is at least low and below bound
---   choose t a b                       == a if t, and b if not
 --   blank                              == no numbers
 --   noted xs k x                       == the numbers xs with x as number k, from 0
 --   opened s at key                    == the chain of the line at index `at`, behind its key
@@ -21,7 +20,7 @@
 --   finish s last                      == the last line again, or a form fault of the next one where bytes follow it
 --   OneRead given bound r              == r is the line `given`, and its number is at most bound - 1; so TwoRead, FourRead
 use mathlib.Core.Path.{_≡_}
-use mathlib.Core.Bool.{Bool, true, false, cond}
+use mathlib.Core.Bool.{Bool, false, cond}
 use mathlib.Core.List.{List}
 use Prim.Native.Nat.{ℕ, _-_, _≤_}
 use lib.ListN.{length}
@@ -40,18 +39,14 @@ use Rattle.reader.specs.declared.line.Line.the-variants as line
 unfoldable pub within : ℕ → ℕ → ℕ → Bool
 within x low bound = cond (ltb x low) false (ltb x bound)
 
-abbrev pub choose : {A : Type 0} → Bool → A → A → A
-choose true a b = a
-choose false a b = b
-
 abbrev pub blank : Numbers
 blank = record { first = 0; second = 0; third = 0; fourth = 0 }
 
 abbrev pub noted : Numbers → ℕ → ℕ → Numbers
 noted xs k x =
-    choose (eqb k 0) (record { first = x; second = xs .second; third = xs .third; fourth = xs .fourth })
-    (choose (eqb k 1) (record { first = xs .first; second = x; third = xs .third; fourth = xs .fourth })
-    (choose (eqb k 2) (record { first = xs .first; second = xs .second; third = x; fourth = xs .fourth })
+    cond (eqb k 0) (record { first = x; second = xs .second; third = xs .third; fourth = xs .fourth })
+    (cond (eqb k 1) (record { first = xs .first; second = x; third = xs .third; fourth = xs .fourth })
+    (cond (eqb k 2) (record { first = xs .first; second = xs .second; third = x; fourth = xs .fourth })
     (record { first = xs .first; second = xs .second; third = xs .third; fourth = x })))
 
 unfoldable pub opened : List ℕ → ℕ → Number → Chain
@@ -66,7 +61,7 @@ unfoldable pub grown : List ℕ → Numbers → Span → ℕ → ℕ → ℕ →
 grown s xs w k low bound Bad = chain.Fault (Form (lineAt s (w .from)))
 grown s xs w k low bound (Value v i) =
     let further : Span = record { from = w .from; next = i } in
-    choose (within v low bound) (chain.Fit (noted xs k v) further) (chain.Unfit further)
+    cond (within v low bound) (chain.Fit (noted xs k v) further) (chain.Unfit further)
 
 unfoldable pub passed : List ℕ → Span → Number → Chain
 passed s w Bad = chain.Fault (Form (lineAt s (w .from)))
@@ -116,7 +111,7 @@ top = line.Numbers blank (record { at = 0 })
 
 unfoldable pub finish : List ℕ → Line → Line
 finish s (line.Fault f) = line.Fault f
-finish s (line.Numbers xs c) = choose (ltb (c .at) (length s)) (line.Fault (Form (lineAt s (c .at)))) (line.Numbers xs c)
+finish s (line.Numbers xs c) = cond (ltb (c .at) (length s)) (line.Fault (Form (lineAt s (c .at)))) (line.Numbers xs c)
 
 pub record OneRead (given : Line) (bound : ℕ) (r : Line) : Type 0 where
   pub same : r ≡ given

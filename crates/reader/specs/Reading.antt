@@ -2,12 +2,11 @@
 --   draftOf s         == what all lines of s come to: the last of them or the first fault, and the plan that they make
 --   DraftRead given r == r is the draft `given`; it has at most 8 soft rules
 --   refuse r          == the answer that turns a plan away: the cause, and an empty plan
---   choose t a b      == a if t, and b if not
 --   admit p           == the plan p, unless its product is too large
 --   answer l p        == the answer to lines that end with l and make the plan p
 --   readPlan s        == the answer to the plan file s: its length is judged before its lines, its lines before its size
 use mathlib.Core.Path.{_≡_}
-use mathlib.Core.Bool.{Bool, true, false}
+use mathlib.Core.Bool.{cond}
 use mathlib.Core.List.{List}
 use Prim.Native.Nat.{ℕ, _^_, _≤_}
 use lib.ListN.{length}
@@ -58,16 +57,12 @@ pub record DraftRead (given r : Draft) : Type 0 where
 abbrev pub refuse : Refusal → Reading
 refuse r = record { outcome = outcome.Refused r; plan = noPlan }
 
-abbrev pub choose : Bool → Reading → Reading → Reading
-choose true a b = a
-choose false a b = b
-
 unfoldable pub admit : Plan → Reading
-admit p = choose (ltb 2048 (size p)) (refuse refusal.ProductTooLarge) (record { outcome = outcome.Plan; plan = p })
+admit p = cond (ltb 2048 (size p)) (refuse refusal.ProductTooLarge) (record { outcome = outcome.Plan; plan = p })
 
 unfoldable pub answer : Line → Plan → Reading
 answer (line.Fault f) p = refuse (refusal.Line f)
 answer (line.Numbers xs c) p = admit p
 
 unfoldable pub readPlan : List ℕ → Reading
-readPlan s = choose (ltb 60000 (length s)) (refuse refusal.PlanTooLong) (answer (draftOf s .line) (draftOf s .plan))
+readPlan s = cond (ltb 60000 (length s)) (refuse refusal.PlanTooLong) (answer (draftOf s .line) (draftOf s .plan))
