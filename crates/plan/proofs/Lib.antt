@@ -1,4 +1,5 @@
 -- The laws of the crate, for the crates above.
+pub mod Products
 pub mod Sums
 pub mod Ties
 pub mod Keys

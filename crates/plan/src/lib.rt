@@ -1,4 +1,6 @@
 //! A plan: places with labels, one-way roads, a start, a hard rule and up to eight soft rules with weights.
+pub mod size;
+
 ghost use mathlib.Core.Path.{_≡_};
 ghost use mathlib.Core.Bool.{cond};
 ghost use Prim.Native.Nat.{_≤_, _<_};
@@ -10,6 +12,7 @@ use automata::Automaton;
 use text::fault::Fault;
 use text::fault::fault_line;
 use text::fault::fault_number;
+use text::read::wide;
 
 // A plan by value. Place v, for v below `places`, has the label labels[v]; road i, for i below `roads`, goes from place
 // from[i] to place to[i]; soft rule i + 1 of the file, for i below `rules`, is soft[i] with the weight weights[i].
@@ -63,13 +66,6 @@ pub fn refusal_line(refusal: Refusal) -> usize
         Refusal::NoTour => 0,
         Refusal::BlockTooShort => 0,
     }
-}
-
-// A number as a wider one.
-fn wide(x: u32) -> u64
-    ensures { λ r. ⌜ (r ≡ x) × (r < 4294967296) ⌝ }
-{
-    x as u64
 }
 
 // Bit i of a kept byte: 1 where soft rule i + 1 is kept.

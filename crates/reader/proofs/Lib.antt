@@ -2,7 +2,6 @@ pub mod Chains
 pub mod Filling
 pub mod Steps
 pub mod Sequences
-pub mod Products
 pub mod Sticky
 pub mod Answers
 pub mod Columns

@@ -2,7 +2,6 @@
 mod block;
 pub mod line;
 pub mod map;
-mod size;
 
 use block::hard_block;
 use block::label_count;
@@ -17,7 +16,7 @@ use plan::Plan;
 use plan::Refusal;
 use plan::refusal_line;
 use plan::refusal_number;
-use size::held_size;
+use plan::size::held_size;
 ghost use mathlib.Core.Path.{_≡_};
 ghost use Prim.Native.Nat.{_≤_};
 ghost use Rattle.plan.specs.WellFormed.{noPlan};

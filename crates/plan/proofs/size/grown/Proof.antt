@@ -2,10 +2,10 @@
 use mathlib.Core.Path.{_≡_}
 use Prim.Native.Nat.{_*_}
 use native.Mathlib.Omega.{arith}
-use Rattle.reader.proofs.Products.{product-fits}
+use Rattle.plan.proofs.Products.{product-fits}
 use borrow.Author.Needs.{needs}
-use Rattle.reader.proofs.size.grown.Statement.{statement}
-use Rattle.reader.proofs.size.grown.Tie as tie
+use Rattle.plan.proofs.size.grown.Statement.{statement}
+use Rattle.plan.proofs.size.grown.Tie as tie
 
 wide-requires : tie.Need-wide-requires
 wide-requires c κs = search needs

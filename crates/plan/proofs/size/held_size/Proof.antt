@@ -6,12 +6,12 @@ use native.Mathlib.Omega.{arith}
 use lib.ListN.{getD}
 use Rattle.automata.specs.declared.Automaton.{Automaton}
 use Rattle.automata.specs.WellFormed.{noAutomaton}
 use Rattle.plan.specs.Size.{productBelow}
 use Rattle.plan.specs.WellFormed.{soft}
-use Rattle.reader.proofs.Products.{product-none, product-more, size-whole, states-default}
+use Rattle.plan.proofs.Products.{product-none, product-more, size-whole, states-default}
 use borrow.Author.Needs.{needs}
-use Rattle.reader.proofs.size.held_size.Statement.{statement}
-use Rattle.reader.proofs.size.held_size.Tie as tie
+use Rattle.plan.proofs.size.held_size.Statement.{statement}
+use Rattle.plan.proofs.size.held_size.Tie as tie
 
 record Grown (rules n₀ : ℕ) (soft : List Automaton) (n i : ℕ) : Type 0 where
   pub within : i ≤ rules
@@ -83,6 +83,9 @@ loop-again c =
           (ap (λ (q : ℕ). q + 1) (c .before .wide3 .ensures .0 ∙ states-default (p .soft) (l .i) _ noAutomaton refl)) (c .grown3 .ensures .0);
     }
 
+cast-result : tie.Need-cast-result Inv-loop μ-loop
+cast-result c = search needs
+
 returns : tie.Need-returns Inv-loop μ-loop
 returns c =
     let l = c .before .loop in
@@ -115,4 +118,5 @@ held-size-spec =
     add-i
     loop-less
     loop-again
+    cast-result
     returns)

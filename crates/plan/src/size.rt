@@ -1,9 +1,9 @@
 //! The size of the product that a plan is searched in, exact up to 2,048.
-use plan::Plan;
+use crate::Plan;
 use text::read::wide;
 ghost use mathlib.Core.Path.{_≡_};
 ghost use Prim.Native.Nat.{_*_, _≤_, min};
 ghost use Rattle.plan.specs.Size.{size};
 
 // n times a factor, held at 2,049.
 fn grown(n: u32, factor: u64) -> u32
@@ -18,7 +18,7 @@ fn grown(n: u32, factor: u64) -> u32
 }
 
 // The size of the product, held at 2,049.
-pub fn held_size(plan: Plan) -> u32
+pub fn held_size(plan: Plan) -> usize
     requires { ⌜ plan .rules ≤ 8 ⌝ }
     ensures { λ r. ⌜ r ≡ min (size plan) 2049 ⌝ }
 {
@@ -32,5 +32,5 @@ pub fn held_size(plan: Plan) -> u32
         n = grown(n, wide(a.states) + 1);
         i += 1;
     }
-    n
+    n as usize
 }
