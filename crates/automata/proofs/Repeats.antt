@@ -18,10 +18,11 @@ use native.Mathlib.Decide.{decLt, ℕ-discrete}
 use native.Mathlib.Omega.{arith}
 use lib.ListN.{getD}
 use lib.Dec.{eqb}
-use Rattle.automata.specs.Automaton.{anyBelow, guard, moveCount, fits, leads, step, blocked, trapStep, final}
+use Rattle.base.specs.Below.{anyBelow}
+use Rattle.automata.specs.Automaton.{guard, moveCount, fits, leads, step, blocked, trapStep, final}
 use Rattle.automata.specs.Acceptance.{Accepting, HardAccepts, SoftAccepts}
 use Rattle.automata.specs.declared.Automaton.{Automaton}
-use Rattle.automata.proofs.Any.{bool-same, any-intro, any-elim}
+use Rattle.base.proofs.Tests.{bool-same, any-intro, any-elim}
 
 module _ {A : Type 0} where
   pub record Among (xs : ℕ → A) (n : ℕ) (ys : ℕ → A) (m : ℕ) : Type 0 where

@@ -12,7 +12,7 @@ use borrow.Author.Tests.{leb-true, le-leb, not-true}
 use lib.Count.{ones}
 use lib.ListN.{length}
 use lib.Dec.{leb}
-use Rattle.automata.proofs.Any.{and-intro, and-left, and-right, false-not-true}
+use Rattle.base.proofs.Tests.{and-intro, and-left, and-right, false-not-true}
 use Rattle.plan.specs.WellFormed.{WellFormed}
 use Rattle.plan.specs.Size.{size, loopRoom, roomy}
 use Rattle.plan.specs.Tour.{IsLasso, Hard}

@@ -13,9 +13,10 @@ use native.Mathlib.Omega.{arith}
 use borrow.Author.Tests.{eqb-true, eq-eqb, leb-true, ltb-true}
 use lib.ListN.{getD}
 use lib.Dec.{eqb, leb, ltb}
-use Rattle.automata.specs.Bits.{bit}
-use Rattle.automata.proofs.Any.{and-intro, and-left, and-right, false-not-true}
-use Rattle.automata.proofs.Bits.{bit-lt, bit-or}
+use Rattle.base.specs.Below.{allBelow}
+use Rattle.base.specs.Bits.{bit}
+use Rattle.base.proofs.Tests.{and-intro, and-left, and-right, false-not-true, all-elim}
+use Rattle.base.proofs.Bits.{bit-lt, bit-or}
 use Rattle.graph.specs.Paths.{Star, Plus, plus, Mutual, Walk, arrived, leave}
 use Rattle.graph.proofs.Paths.{star-one, star-keeps, mutual-refl}
 use Rattle.plan.specs.Size.{size}
@@ -24,8 +25,6 @@ use Rattle.plan.specs.Key.{key}
 use Rattle.plan.specs.declared.Plan.{Plan}
 use Rattle.plan.proofs.Keys.{key-mono}
 use Rattle.plan.proofs.Ties.{Within}
-use Rattle.product.specs.Net.{allBelow}
-use Rattle.product.proofs.Tests.{all-elim}
 use Rattle.compile.specs.Product.{arcOf, coloursOf, startNode}
 use Rattle.optimality.specs.Offer.{Edge, Colour, Offers, Choice, Nothing}
 use Rattle.optimality.proofs.Colours.{bit-colour}

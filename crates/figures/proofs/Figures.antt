@@ -13,14 +13,15 @@ use borrow.Author.Tests.{eqb-true, ne-eqb, ltb-true, leb-true}
 use lib.Count.{ones, onesIn}
 use lib.ListN.{length, getD}
 use lib.Dec.{eqb, leb}
-use Rattle.automata.specs.Automaton.{anyBelow, guard, fits, leads, step, blocked, trapStep, final}
+use Rattle.base.specs.Below.{anyBelow, productBelow, sumBelow, allBelow}
+use Rattle.automata.specs.Automaton.{guard, fits, leads, step, blocked, trapStep, final}
 use Rattle.automata.specs.Acceptance.{lassoAt}
-use Rattle.automata.specs.Bits.{bit}
-use Rattle.automata.proofs.Any.{and-left, and-right, false-not-true}
+use Rattle.base.specs.Bits.{bit}
+use Rattle.base.proofs.Tests.{and-left, and-right, false-not-true, all-elim}
 use Rattle.plan.specs.WellFormed.{WellFormed}
-use Rattle.plan.specs.Size.{size, productBelow}
+use Rattle.plan.specs.Size.{size}
 use Rattle.plan.specs.Tour.{IsLasso, Hard, Soft, joins}
-use Rattle.plan.specs.Cost.{sumBelow, keeps, KeptIs, cost, costOf, Better}
+use Rattle.plan.specs.Cost.{keeps, KeptIs, cost, costOf, Better}
 use Rattle.plan.specs.Key.{tie, keyOf, key}
 use Rattle.plan.specs.declared.Plan.{Plan}
 use Rattle.plan.proofs.Keys.{key-mono, key-better}
@@ -32,9 +33,7 @@ use Rattle.reader.specs.Reading.{draftOf, admit, answer, readPlan}
 use Rattle.reader.specs.declared.Outcome.{Outcome}
 use Rattle.reader.specs.declared.Outcome.the-variants as outcome
 use Rattle.reader.proofs.WellRead.{read-well}
-use Rattle.product.specs.Net.{allBelow}
 use Rattle.product.specs.Radix.{stride, encode}
-use Rattle.product.proofs.Tests.{all-elim}
 use Rattle.compile.specs.Product.{radices, tuple, nodeOf, arcOf, coloursBelow}
 use Rattle.optimality.specs.Offer.{Choice}
 use Rattle.optimality.proofs.Bound.{bound}

@@ -10,13 +10,12 @@ use native.Mathlib.Omega.{arith}
 use borrow.Author.Tests.{ltb-true}
 use lib.ListN.{length, getD}
 use Rattle.automata.specs.Automaton.{final}
-use Rattle.automata.proofs.Any.{any-elim, and-left, and-right}
+use Rattle.base.proofs.Tests.{any-elim, and-left, and-right, all-elim}
 use Rattle.plan.specs.WellFormed.{soft, WellFormed}
 use Rattle.plan.specs.Tour.{IsLasso, Hard, Soft}
 use Rattle.plan.specs.Cost.{keeps}
 use Rattle.plan.specs.declared.Plan.{Plan}
 use Rattle.graph.specs.Paths.{Walk}
-use Rattle.product.proofs.Tests.{all-elim}
 use Rattle.compile.specs.Product.{startNode, placeOf, hardOf, softOf}
 use Rattle.optimality.specs.Offer.{Edge}
 use Rattle.optimality.proofs.Witness.{witness-lasso, witness-hard, witness-soft}

@@ -19,7 +19,8 @@ use Prim.Native.String.{String}
 use lib.Count.{ones}
 use lib.ListN.{length, getD}
 use lib.Dec.{eqb, ltb, leb}
-use Rattle.automata.specs.Automaton.{anyBelow, final}
+use Rattle.base.specs.Below.{anyBelow, allBelow}
+use Rattle.automata.specs.Automaton.{final}
 use Rattle.plan.specs.WellFormed.{soft, weight}
 use Rattle.plan.specs.Size.{size, roomy}
 use Rattle.plan.specs.Cost.{keeps, cost}
@@ -28,7 +29,6 @@ use Rattle.plan.specs.declared.Plan.{Plan}
 use Rattle.reader.specs.Reading.{readPlan}
 use Rattle.reader.specs.declared.Outcome.{Outcome}
 use Rattle.reader.specs.declared.Outcome.the-variants as outcome
-use Rattle.product.specs.Net.{allBelow}
 use Rattle.compile.specs.Product.{startNode, hardOf, softOf}
 use Rattle.serve.specs.Upcoming.{upcomingPlaces}
 use Rattle.figures.specs.Bytes.{bytes}

@@ -9,7 +9,8 @@ use native.Mathlib.Numerals.{add-one}
 use native.Mathlib.Omega.{arith}
 use lib.ListN.{getD}
 use lib.Pow.{pow-mono}
-use Rattle.plan.specs.Cost.{sumBelow, keeps, costOf}
+use Rattle.base.specs.Below.{sumBelow}
+use Rattle.plan.specs.Cost.{keeps, costOf}
 use Rattle.plan.specs.Key.{tie}
 use Rattle.plan.proofs.Ties.{tie-lt}
 

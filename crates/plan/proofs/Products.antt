@@ -10,8 +10,9 @@ use native.Mathlib.Nat.{mul-assoc, mul-le-mul-left, mul-le-mul-right}
 use lib.ListN.{getD}
 use lib.Dec.{ltb}
 use borrow.Author.Tests.{ltb-true, ltb-false}
+use Rattle.base.specs.Below.{productBelow}
 use Rattle.automata.specs.declared.Automaton.{Automaton}
-use Rattle.plan.specs.Size.{productBelow, size}
+use Rattle.plan.specs.Size.{size}
 use Rattle.plan.specs.WellFormed.{soft}
 use Rattle.plan.specs.declared.Plan.{Plan}
 

@@ -17,12 +17,13 @@ use native.Mathlib.Decide.{ℕ-discrete}
 use native.Mathlib.Omega.{arith}
 use lib.ListN.{length, getD}
 use lib.Dec.{eqb}
+use Rattle.base.specs.Below.{productBelow}
 use Rattle.automata.specs.Acceptance.{lassoAt, HardAccepts, SoftAccepts}
 use Rattle.automata.specs.declared.Automaton.{Automaton}
 use Rattle.automata.proofs.Repeats as automata
 use Rattle.automata.proofs.Repeats.{Relisted, Repeated, SameMoves, RepeatedMove}
 use Rattle.plan.specs.WellFormed.{soft}
-use Rattle.plan.specs.Size.{productBelow, size}
+use Rattle.plan.specs.Size.{size}
 use Rattle.plan.specs.Tour.{joins, roadCount, IsLasso, word, Hard, Soft}
 use Rattle.plan.specs.Cost.{KeptIs, costOf, cost, First, Better, Best}
 use Rattle.plan.specs.declared.Plan.{Plan}

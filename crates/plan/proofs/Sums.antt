@@ -8,9 +8,10 @@ use Prim.Native.Nat.{ℕ, zero, suc, _+_, _^_, _≤_, _<_}
 use native.Mathlib.Decide.{decLt, ℕ-discrete}
 use native.Mathlib.Omega.{arith}
 use borrow.Author.Tests.{eqb-true, eq-eqb}
-use Rattle.automata.specs.Bits.{bit}
-use Rattle.automata.proofs.Bits.{bit-lt, bit-ext, bit-high}
-use Rattle.plan.specs.Cost.{sumBelow, keeps}
+use Rattle.base.specs.Below.{sumBelow}
+use Rattle.base.specs.Bits.{bit}
+use Rattle.base.proofs.Bits.{bit-lt, bit-ext, bit-high}
+use Rattle.plan.specs.Cost.{keeps}
 
 pub sum-le : (n : ℕ) (f g : ℕ → ℕ) → ((i : ℕ) → i < n → f i ≤ g i) → sumBelow n f ≤ sumBelow n g
 unfolding sumBelow

@@ -9,7 +9,7 @@ use Prim.Native.Nat.{ℕ, zero, suc, _+_, _*_, _^_, _≤_, _<_}
 use native.Mathlib.Nat.{pow-suc}
 use native.Mathlib.Decide.{decLt, ℕ-discrete}
 use native.Mathlib.Omega.{arith}
-use Rattle.automata.proofs.Any.{false-not-true}
+use Rattle.base.proofs.Tests.{false-not-true}
 use Rattle.plan.specs.Cost.{keeps, First}
 use Rattle.plan.specs.Key.{tie}
 

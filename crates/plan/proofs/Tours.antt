@@ -10,7 +10,7 @@ use Prim.Native.Nat.{ℕ, suc, _+_, _-_, _%_, _≤_, _<_}
 use native.Mathlib.Omega.{arith}
 use lib.ListN.{length, getD}
 use Rattle.automata.specs.Acceptance.{lassoAt}
-use Rattle.automata.proofs.Any.{false-not-true}
+use Rattle.base.proofs.Tests.{false-not-true}
 use Rattle.automata.proofs.Lassos.{lasso-cycle}
 use Rattle.plan.specs.Tour.{IsLasso, Hard, joins}
 use Rattle.plan.specs.Cost.{KeptIs, Better, Best}

@@ -1,5 +1,4 @@
 -- What a tour keeps and what it costs (01, "Tours and what they keep"). A kept byte is a number: bit i is soft rule i + 1.
---   sumBelow n f          == f 0 + .. + f (n - 1)
 --   keeps k i             == the kept byte k has soft rule i + 1
 --   KeptIs p stem cycle k == k has exactly the soft rules that accept the tour
 --   costOf weights n k    == the sum of the weights of the first n rules that are not in k
@@ -12,19 +11,15 @@ use mathlib.Core.Path.{_≡_}
 use mathlib.Core.Bool.{Bool, true, false, cond}
 use mathlib.Core.List.{List}
 use mathlib.Core.Logic.{_⊎_}
-use Prim.Native.Nat.{ℕ, zero, suc, _+_, _^_, _<_}
+use Prim.Native.Nat.{ℕ, suc, _^_, _<_}
 use lib.ListN.{getD}
-use lib.Dec.{eqb}
-use Rattle.automata.specs.Bits.{bit}
+use Rattle.base.specs.Below.{sumBelow}
+use Rattle.base.specs.Bits.{hasBit}
 use Rattle.plan.specs.Tour.{IsLasso, Hard, Soft}
 use Rattle.plan.specs.declared.Plan.{Plan}
 
-unfoldable pub sumBelow : ℕ → (ℕ → ℕ) → ℕ
-sumBelow zero f = 0
-sumBelow (suc n) f = sumBelow n f + f n
-
 abbrev pub keeps : ℕ → ℕ → Bool
-keeps k i = eqb (bit k i) 1
+keeps k i = hasBit k i
 
 pub record KeptIs (p : Plan) (stem cycle : List ℕ) (k : ℕ) : Type 0 where
   pub small : k < 2 ^ p .rules

@@ -1,17 +1,13 @@
 -- The number N of 01: how many tuples of a place, a state of the hard rule and a state, or the trap, of each soft rule.
---   productBelow n f == f 0 * .. * f (n - 1)
 --   size p           == N
 --   loopRoom p       == how many bytes of loop the planner asks for
 --   roomy p r l      == a run-in buffer of r bytes and a loop buffer of l are long enough
 use mathlib.Core.Bool.{Bool, _&&_}
-use Prim.Native.Nat.{ℕ, zero, suc, _+_, _*_}
+use Prim.Native.Nat.{ℕ, _+_, _*_}
 use lib.Dec.{leb}
+use Rattle.base.specs.Below.{productBelow}
 use Rattle.plan.specs.WellFormed.{soft}
 use Rattle.plan.specs.declared.Plan.{Plan}
-
-unfoldable pub productBelow : ℕ → (ℕ → ℕ) → ℕ
-productBelow zero f = 1
-productBelow (suc n) f = productBelow n f * f n
 
 unfoldable pub size : Plan → ℕ
 size p = p .places * p .hard .states * productBelow (p .rules) (λ i. soft p i .states + 1)

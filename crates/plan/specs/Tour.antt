@@ -12,7 +12,7 @@ use mathlib.Core.List.{List}
 use Prim.Native.Nat.{ℕ, suc, _+_, _<_, min}
 use lib.ListN.{length, getD}
 use lib.Dec.{eqb}
-use Rattle.automata.specs.Automaton.{anyBelow}
+use Rattle.base.specs.Below.{anyBelow}
 use Rattle.automata.specs.Acceptance.{lassoAt, HardAccepts, SoftAccepts}
 use Rattle.plan.specs.WellFormed.{soft}
 use Rattle.plan.specs.declared.Plan.{Plan}

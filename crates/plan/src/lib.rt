@@ -4,7 +4,7 @@ pub mod size;
 ghost use mathlib.Core.Path.{_≡_};
 ghost use mathlib.Core.Bool.{cond};
 ghost use Prim.Native.Nat.{_≤_, _<_};
-ghost use Rattle.automata.specs.Bits.{bit};
+ghost use Rattle.base.specs.Bits.{bit};
 ghost use Rattle.plan.specs.Cost.{keeps, costOf};
 ghost use Rattle.plan.specs.Key.{tie, keyOf};
 ghost use Rattle.plan.specs.Refusal.{number, lineOf};

@@ -2,7 +2,7 @@
 use mathlib.Core.Path.{sym, _∙_}
 use native.Mathlib.Omega.{arith}
 use lib.Bits.{and-mask}
-use Rattle.automata.proofs.Bits.{bit-shift, bit-lt}
+use Rattle.base.proofs.Bits.{bit-shift, bit-lt}
 use borrow.Author.Needs.{needs}
 use Rattle.plan.proofs.kept_bit.Statement.{statement}
 use Rattle.plan.proofs.kept_bit.Tie as tie

@@ -4,9 +4,9 @@ use mathlib.Core.List.{List}
 use Prim.Native.Nat.{ℕ, _+_, _-_, _*_, _≤_, min}
 use native.Mathlib.Omega.{arith}
 use lib.ListN.{getD}
+use Rattle.base.specs.Below.{productBelow}
 use Rattle.automata.specs.declared.Automaton.{Automaton}
 use Rattle.automata.specs.WellFormed.{noAutomaton}
-use Rattle.plan.specs.Size.{productBelow}
 use Rattle.plan.specs.WellFormed.{soft}
 use Rattle.plan.proofs.Products.{product-none, product-more, size-whole, states-default}
 use borrow.Author.Needs.{needs}

@@ -1,0 +1,3 @@
+-- The laws of the crate, for the crates above.
+pub mod Tests
+pub mod Bits
