@@ -4,7 +4,7 @@
 --                              most 2^32 - 1 does not tell the two apart, and a number that passes it was not held
 --   good l                  == the line l has no fault
 --   Fails s l f             == the fault f is that of the line l, or of a line of s
---   Led s Q l r             == behind the line l comes the line r: a fault, or numbers of which Q holds where l has no fault
+--   Led s Q l r             == behind the line l comes the line r: a fault, or, where l has none, numbers of which Q holds
 --   begun, taken            == what a key and a number lead to
 --   one-led, two-led, four-led == what each kind of line leads to: numbers in their ranges
 --   led-low                 == a number that Q has in a range is below its bound, also where r has a fault

@@ -1,7 +1,7 @@
 -- One line of a plan file (01, "The plan file"; the causes 2 and 3 of "Why a plan is turned away"). A line is read behind the
 -- line before it. Once a line has a fault, every later one is that fault again: the first faulty line decides. The line itself is
--- a chain of steps: its key, then number after number. A number of bad form ends the chain with a fault; one out of its range is
--- noted, and the fault is told at the end, so that form is judged before range.
+-- a chain of steps: its key, then number after number. A number of bad form is the fault at once; one out of its range is kept in
+-- mind, and is the fault if the line ends well, so that form is judged before range.
 --   within x low bound                 == x is at least low and below bound
 --   blank                              == no numbers
 --   noted xs k x                       == the numbers xs with x as number k, from 0
