@@ -6,9 +6,9 @@
 use mathlib.Core.Path.{_≡_, refl, sym, ap, _∙_, subst}
 use mathlib.Core.Bool.{true, false}
 use mathlib.Core.List.{List}
-use Prim.Native.Nat.{ℕ}
+use Prim.Native.Nat.{ℕ, _≤_}
 use native.Mathlib.Omega.{arith}
-use borrow.Author.Tests.{leb-true, le-leb, not-true}
+use borrow.Author.Tests.{leb-true, le-leb, le-ltb, not-true}
 use lib.Count.{ones}
 use lib.ListN.{length}
 use lib.Dec.{leb}
@@ -80,7 +80,7 @@ heard text room x tells b b′ r h f P =
     let t = tells b b′ (A .answer) f (A .told) in
     (A .returned ∙ t .number, subst (Tells x) (sym (block-exact text b b′ r h P)) t)
 
-module _ (text : List ℕ) (room : Room) (o : readPlan text .outcome ≡ outcome.Plan) where
+module _ (text : List ℕ) (room : Room) (o : readPlan text .outcome ≡ outcome.Plan) (small : size (readPlan text .plan) ≤ 2048) where
   abbrev plan : Plan
   plan = readPlan text .plan
 
@@ -89,12 +89,12 @@ module _ (text : List ℕ) (room : Room) (o : readPlan text .outcome ≡ outcome
   unfolding verdict Told
   answers-tour e k best stem cycle lasso hard kept =
       heard text room (tour (cost plan k) k (ones k)) (λ b b′ a f t.
-      planned-tour plan (read-well text o) k best stem cycle lasso hard kept (rw (o, enough-roomy room plan b e f) at t))
+      planned-tour plan (read-well text o) k best stem cycle lasso hard kept (rw (o, le-ltb 2048 (size plan) small, enough-roomy room plan b e f) at t))
 
   pub answers-none : enough room plan ≡ true → NoTour plan → Answers text room (refusal 6)
   unfolding verdict Told
-  answers-none e without = heard text room (refusal 6) (λ b b′ a f t. planned-none plan without (rw (o, enough-roomy room plan b e f) at t))
+  answers-none e without = heard text room (refusal 6) (λ b b′ a f t. planned-none plan without (rw (o, le-ltb 2048 (size plan) small, enough-roomy room plan b e f) at t))
 
   pub answers-short : lacking room plan ≡ true → Answers text room (refusal 5)
   unfolding verdict Told
-  answers-short e = heard text room (refusal 5) (λ b b′ a f t. refused-short (rw (o, lacking-roomy room plan b e f) at t))
+  answers-short e = heard text room (refusal 5) (λ b b′ a f t. refused-short (rw (o, le-ltb 2048 (size plan) small, lacking-roomy room plan b e f) at t))

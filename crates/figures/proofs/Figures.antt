@@ -29,7 +29,7 @@ use Rattle.text.specs.Scan.{startsWith, isDigit, canonical, digitCount, value, 
 use Rattle.reader.specs.Line.{within, opened, beginLine, grown, passed, takeNumber, endLine, lineOfOne, lineOfTwo, lineOfFour, finish}
 use Rattle.reader.specs.Blocks.{repeat, labelBlock, roadBlock, moveBlock, automatonBlock, hardBlock, softBlock, softBlocks}
 use Rattle.reader.specs.Map.{mapOf}
-use Rattle.reader.specs.Reading.{draftOf, admit, answer, readPlan}
+use Rattle.reader.specs.Reading.{draftOf, answer, readPlan}
 use Rattle.reader.specs.declared.Outcome.{Outcome}
 use Rattle.reader.specs.declared.Outcome.the-variants as outcome
 use Rattle.reader.proofs.WellRead.{read-well}
@@ -70,7 +70,7 @@ plan-sound outcome.Plan h = refl
 
 -- ---- an answer
 
-module _ (text : List ℕ) (room : Room) (x : Numbers) (o : readPlan text .outcome ≡ outcome.Plan) where
+module _ (text : List ℕ) (room : Room) (x : Numbers) (o : readPlan text .outcome ≡ outcome.Plan) (small : size (readPlan text .plan) ≤ 2048) where
   abbrev p : Plan
   p = readPlan text .plan
 
@@ -81,18 +81,18 @@ module _ (text : List ℕ) (room : Room) (x : Numbers) (o : readPlan text .outco
   reason-holds (best cs r) h =
       let test = all-nth (reasonTests p room x (best cs r)) h in
       let k = x .kept in
-      let small : k < 2 ^ p .rules = ltb-true k (2 ^ p .rules) (test 2) in
+      let listed : k < 2 ^ p .rules = ltb-true k (2 ^ p .rules) (test 2) in
       let choice : Choice p k = best-by p k cs (test 3) in
       let d = test 4 in
-      let kept = exact p ok k small choice (stem p ok k r d) (cycle p ok k r d) (lasso p ok k r d) (hard p ok k r d) (softs p ok k r d) in
+      let kept = exact p ok k listed choice (stem p ok k r d) (cycle p ok k r d) (lasso p ok k r d) (hard p ok k r d) (softs p ok k r d) in
       subst (Answers text room) (alike-sound (tour (cost p k) k (ones k)) x (test 0))
-      (answers-tour text room o (test 1) k (tour-best p ok k small choice) (stem p ok k r d) (cycle p ok k r d) (lasso p ok k r d) (hard p ok k r d) kept)
+      (answers-tour text room o small (test 1) k (tour-best p ok k listed choice) (stem p ok k r d) (cycle p ok k r d) (lasso p ok k r d) (hard p ok k r d) kept)
   reason-holds (none cs) h =
       let test = all-nth (reasonTests p room x (none cs)) h in
-      subst (Answers text room) (alike-sound (refusal 6) x (test 0)) (answers-none text room o (test 1) (tour-none p ok (none-by p cs (test 2))))
+      subst (Answers text room) (alike-sound (refusal 6) x (test 0)) (answers-none text room o small (test 1) (tour-none p ok (none-by p cs (test 2))))
   reason-holds short h =
       let test = all-nth (reasonTests p room x short) h in
-      subst (Answers text room) (alike-sound (refusal 5) x (test 0)) (answers-short text room o (test 1))
+      subst (Answers text room) (alike-sound (refusal 5) x (test 0)) (answers-short text room o small (test 1))
 
 -- ---- a rule that is not worth it
 
@@ -144,8 +144,9 @@ module _ (p : Plan) (ok : WellFormed p) (rule least k : ℕ) (cs : List (List �
 pub passes-holds : (f : Figure) → passes f ≡ true → Holds f
 unfolding passes Holds
 passes-holds (answers text n room x by) h =
-    let test = all-nth (isRead text ∷ eqb (size (planOf text)) n ∷ allOf (reasonTests (planOf text) room x by) ∷ []) h in
-    (eqb-true (size (planOf text)) n (test 1), reason-holds (bytes text) room x (plan-sound _ (test 0)) by (test 2))
+    let test = all-nth (isRead text ∷ eqb (size (planOf text)) n ∷ leb n 2048 ∷ allOf (reasonTests (planOf text) room x by) ∷ []) h in
+    let e = eqb-true (size (planOf text)) n (test 1) in
+    (e, reason-holds (bytes text) room x (plan-sound _ (test 0)) (omega (arith, e, leb-true n 2048 (test 2))) by (test 3))
 passes-holds (dear text rule least k cs r) h =
     let test = all-nth (isRead text ∷ allOf (dearTests (planOf text) rule least k cs r) ∷ []) h in
     dear-holds (planOf text) (read-well (bytes text) (plan-sound _ (test 0))) rule least k cs r (test 1)
@@ -163,7 +164,7 @@ pass-holds (f ∷ fs) h (suc i) l = pass-holds fs (and-right (passes f) (pass fs
 
 all-pass : pass figures ≡ true
 unfolding pass passes allOf bytes upcomingPlaces
-    readPlan answer admit draftOf mapOf labelBlock roadBlock moveBlock automatonBlock hardBlock softBlock softBlocks repeat
+    readPlan answer draftOf mapOf labelBlock roadBlock moveBlock automatonBlock hardBlock softBlock softBlocks repeat
     within opened beginLine grown passed takeNumber endLine lineOfOne lineOfTwo lineOfFour finish startsWith isDigit canonical digitCount value leading numberAt keyAt
     size productBelow everyOf someOf listed shades parted walksBy allBelow arcOf nodeOf tuple encode stride radices
     joins step trapStep blocked leads fits guard anyBelow final bit coloursBelow costOf keyOf tie sumBelow ones onesIn

@@ -116,6 +116,6 @@ abbrev pub isRead : String → Bool
 isRead text = isPlan (readPlan (bytes text) .outcome)
 
 unfoldable pub passes : Figure → Bool
-passes (answers text n room x by) = allOf (isRead text ∷ eqb (size (planOf text)) n ∷ allOf (reasonTests (planOf text) room x by) ∷ [])
+passes (answers text n room x by) = allOf (isRead text ∷ eqb (size (planOf text)) n ∷ leb n 2048 ∷ allOf (reasonTests (planOf text) room x by) ∷ [])
 passes (dear text rule least k cs r) = allOf (isRead text ∷ allOf (dearTests (planOf text) rule least k cs r) ∷ [])
 passes (served stem cycle t part) = same (upcomingPlaces stem cycle t) part

@@ -8,6 +8,8 @@ use mathlib.Core.Logic.{_≢_}
 use Prim.Native.Nat.{ℕ, _≤_}
 use native.Mathlib.Omega.{arith}
 use lib.ListN.{length}
+use lib.Dec.{ltb}
+use borrow.Author.Tests.{ltb-false}
 use lib.Pow.{pow-mono}
 use Rattle.plan.specs.WellFormed.{WellFormed}
 use Rattle.plan.specs.Size.{size, roomy}
@@ -22,7 +24,7 @@ use Rattle.reader.specs.Reading.{readPlan}
 use Rattle.reader.specs.declared.Outcome.{Outcome}
 use Rattle.reader.specs.declared.Outcome.the-variants as outcome
 use Rattle.reader.proofs.Answers.{read-low}
-use Rattle.reader.proofs.WellRead.{read-ok}
+use Rattle.reader.proofs.WellRead.{read-well}
 use Rattle.answer.specs.Block.{Narrow}
 use Rattle.answer.specs.declared.Answer.{Answer}
 use Rattle.planner.specs.Promise.{verdict, refuse, go, refusalAnswer, TourOf, Planned, none, tour, Told}
@@ -61,19 +63,26 @@ module _ (runin loop runin′ loop′ : List ℕ) (a : Answer) (r l : ℕ) where
   Says : Outcome → Plan → Type 0
   Says o p = Told (verdict o p r l) runin loop runin′ loop′ a
 
-  verdict-narrow : (o : Outcome) (p : Plan) → number o ≤ 4 → lineOf o ≤ 60001 → (o ≡ outcome.Plan → WellFormed p × (size p ≤ 2048)) → Says o p → Narrow a
+  verdict-narrow : (o : Outcome) (p : Plan) → number o ≤ 3 → lineOf o ≤ 60001 → (o ≡ outcome.Plan → WellFormed p) → Says o p → Narrow a
   unfolding Says verdict Told
   verdict-narrow (outcome.Refused x) p low early ok t = refusal-narrow x a (t .answer) (omega arith) early
-  verdict-narrow outcome.Plan p low early ok t = by (roomy p r l) t
+  verdict-narrow outcome.Plan p low early ok t = by (ltb 2048 (size p)) (roomy p r l) refl t
     where
-      by : (b : Bool) → Told (cond b (go p) (refuse refusal.BufferTooShort)) runin loop runin′ loop′ a → Narrow a
-      by true t = planned-narrow p (ok refl .0) (ok refl .1) t
-      by false t = refusal-narrow refusal.BufferTooShort a (t .answer) (omega arith) (omega arith)
+      by : (large room : Bool) → ltb 2048 (size p) ≡ large
+          → Told (cond large (refuse refusal.ProductTooLarge) (cond room (go p) (refuse refusal.BufferTooShort))) runin loop runin′ loop′ a → Narrow a
+      by true room e t = refusal-narrow refusal.ProductTooLarge a (t .answer) (omega arith) (omega arith)
+      by false true e t = planned-narrow p (ok refl) (ltb-false 2048 (size p) e) t
+      by false false e t = refusal-narrow refusal.BufferTooShort a (t .answer) (omega arith) (omega arith)
 
-  verdict-number : (o : Outcome) (p : Plan) → number o ≤ 4 → (o ≡ outcome.Plan → roomy p r l ≡ true) → Says o p → a .number ≢ 5
+  verdict-number : (o : Outcome) (p : Plan) → number o ≤ 3 → (o ≡ outcome.Plan → size p ≤ 2048 → roomy p r l ≡ true) → Says o p → a .number ≢ 5
   unfolding Says verdict Told
   verdict-number (outcome.Refused x) p low room t f = omega (arith, ap (λ y. y .number) (t .answer))
-  verdict-number outcome.Plan p low room t f = planned-number p (rw (room refl) at t) f
+  verdict-number outcome.Plan p low room t f = by (ltb 2048 (size p)) refl t
+    where
+      by : (large : Bool) → ltb 2048 (size p) ≡ large
+          → Told (cond large (refuse refusal.ProductTooLarge) (cond (roomy p r l) (go p) (refuse refusal.BufferTooShort))) runin loop runin′ loop′ a → ⊥
+      by true e t = omega (arith, ap (λ y. y .number) (t .answer))
+      by false e t = planned-number p (rw (room refl (ltb-false 2048 (size p) e)) at t) f
 
 module _ (plan runin loop runin′ loop′ : List ℕ) (a : Answer)
     (t : Told (verdict (readPlan plan .outcome) (readPlan plan .plan) (length runin) (length loop)) runin loop runin′ loop′ a) where
@@ -81,10 +90,10 @@ module _ (plan runin loop runin′ loop′ : List ℕ) (a : Answer)
   unfolding Says
   told-narrow =
       verdict-narrow runin loop runin′ loop′ a (length runin) (length loop) (readPlan plan .outcome) (readPlan plan .plan)
-      (read-low plan .0) (read-low plan .1) (read-ok plan (readPlan plan) refl) t
+      (read-low plan .0) (read-low plan .1) (read-well plan) t
 
   pub never-short : length runin ≡ 2048 → length loop ≡ 20480 → a .number ≢ 5
   unfolding Says
   never-short r l =
       verdict-number runin loop runin′ loop′ a (length runin) (length loop) (readPlan plan .outcome) (readPlan plan .plan) (read-low plan .0)
-      (λ e. let ok = read-ok plan (readPlan plan) refl e in rw (r, l) (roomy-enough (readPlan plan .plan) (ok .0) (ok .1))) t
+      (λ e small. rw (r, l) (roomy-enough (readPlan plan .plan) (read-well plan e) small)) t

@@ -1,16 +1,17 @@
 -- The verdict as the code comes to it.
---   short-runin, short-loop    == a buffer is too short
+--   too-large                  == N, held at 2,049, is above 2,048, and so is N itself
+--   short-runin, short-loop    == it is not, and a buffer is too short
 --   roomy-planned              == both have room: what planning comes to is what is told
 --   refused-told, read-told    == a plan file that is turned away, and one that is read
 --   told-fits                  == the lengths that are told lie within the buffers
 use mathlib.Core.Path.{_≡_, refl, sym, ap, _∙_, subst}
 use mathlib.Core.Bool.{Bool, true, false, _&&_}
 use mathlib.Core.List.{List, _++_}
-use Prim.Native.Nat.{ℕ, _+_, _*_, _≤_, _<_}
+use Prim.Native.Nat.{ℕ, _+_, _*_, _≤_, _<_, min}
 use native.Mathlib.Omega.{arith}
-use borrow.Author.Tests.{lt-leb, le-leb}
+use borrow.Author.Tests.{lt-ltb, le-ltb, lt-leb, le-leb}
 use lib.ListN.{length, drop, length-append}
-use lib.Dec.{leb}
+use lib.Dec.{ltb, leb}
 use Rattle.plan.specs.Size.{size, loopRoom, roomy}
 use Rattle.plan.specs.declared.Plan.{Plan}
 use Rattle.plan.specs.declared.Refusal.{Refusal}
@@ -25,30 +26,43 @@ and-no : (b : Bool) → (b && false) ≡ false
 and-no true = refl
 and-no false = refl
 
-module _ (p : Plan) (n : ℕ) (count : n ≡ size p) (runin loop : List ℕ) (a : Answer) where
-  short : roomy p (length runin) (length loop) ≡ false → a ≡ refusalAnswer refusal.BufferTooShort
+module _ (p : Plan) (n : ℕ) (held : n ≡ min (size p) 2049) (runin loop : List ℕ) (a : Answer) where
+  pub too-large : 2048 < n → a ≡ refusalAnswer refusal.ProductTooLarge
       → Told (verdict outcome.Plan p (length runin) (length loop)) runin loop runin loop a
   unfolding verdict Told
-  short e t = rw e (record { answer = t; same-runin = refl; same-loop = refl })
+  too-large h t =
+      let k : 2048 < size p = omega arith in
+      rw (lt-ltb 2048 (size p) k) (record { answer = t; same-runin = refl; same-loop = refl })
 
-  pub short-runin : length runin < n → a ≡ refusalAnswer refusal.BufferTooShort
-      → Told (verdict outcome.Plan p (length runin) (length loop)) runin loop runin loop a
-  short-runin h t = short (rw (lt-leb (size p) (length runin) (omega arith))) t
+  module _ (h : n ≤ 2048) where
+    count : n ≡ size p
+    count = omega arith
 
-  pub short-loop : length loop < (p .rules + 2) * n → a ≡ refusalAnswer refusal.BufferTooShort
-      → Told (verdict outcome.Plan p (length runin) (length loop)) runin loop runin loop a
-  short-loop h t =
-      let l : length loop < loopRoom p = subst (λ x. length loop < (p .rules + 2) * x) count h in
-      short (rw (lt-leb (loopRoom p) (length loop) l) (and-no (leb (size p) (length runin)))) t
+    small : ltb 2048 (size p) ≡ false
+    small = le-ltb 2048 (size p) (omega (arith, count))
 
-  module _ (runin′ loop′ : List ℕ) where
-    pub roomy-planned : n ≤ length runin → (p .rules + 2) * n ≤ length loop → Planned p runin loop runin′ loop′ a
+    short : roomy p (length runin) (length loop) ≡ false → a ≡ refusalAnswer refusal.BufferTooShort
+        → Told (verdict outcome.Plan p (length runin) (length loop)) runin loop runin loop a
+    unfolding verdict Told
+    short e t = rw (small, e) (record { answer = t; same-runin = refl; same-loop = refl })
+
+    pub short-runin : length runin < n → a ≡ refusalAnswer refusal.BufferTooShort
+        → Told (verdict outcome.Plan p (length runin) (length loop)) runin loop runin loop a
+    short-runin k t = short (rw (lt-leb (size p) (length runin) (omega (arith, count)))) t
+
+    pub short-loop : length loop < (p .rules + 2) * n → a ≡ refusalAnswer refusal.BufferTooShort
+        → Told (verdict outcome.Plan p (length runin) (length loop)) runin loop runin loop a
+    short-loop k t =
+        let l : length loop < loopRoom p = subst (λ x. length loop < (p .rules + 2) * x) count k in
+        short (rw (lt-leb (loopRoom p) (length loop) l) (and-no (leb (size p) (length runin)))) t
+
+    pub roomy-planned : (runin′ loop′ : List ℕ) → n ≤ length runin → (p .rules + 2) * n ≤ length loop → Planned p runin loop runin′ loop′ a
         → Told (verdict outcome.Plan p (length runin) (length loop)) runin loop runin′ loop′ a
     unfolding verdict Told
-    roomy-planned h k P =
+    roomy-planned runin′ loop′ r k P =
         let l : loopRoom p ≤ length loop = subst (λ x. (p .rules + 2) * x ≤ length loop) count k in
-        let r : size p ≤ length runin = omega arith in
-        rw (le-leb (size p) (length runin) r, le-leb (loopRoom p) (length loop) l) P
+        let s : size p ≤ length runin = omega (arith, count) in
+        rw (small, le-leb (size p) (length runin) s, le-leb (loopRoom p) (length loop) l) P
 
 -- what the reader answered is what the plan file reads as
 module _ (plan : List ℕ) (r : Reading) (same : r ≡ readPlan plan) where

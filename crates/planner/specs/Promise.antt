@@ -1,6 +1,7 @@
 -- What the planner promises of its answer: 01, "Why a plan is turned away", with demands 1 to 3.
 --   Verdict              == a refusal that needs no planning, or the plan to be planned
---   verdict o p r l      == of what a plan file reads as, and buffers of r and l bytes: its refusal 1 to 4, then 5; else the plan
+--   verdict o p r l      == of what a plan file reads as, and buffers of r and l bytes: its refusal 1 to 3, then 4 by the plan's size,
+--                           then 5; else the plan
 --   refusalAnswer x      == the answer to a refusal: its number and line, and 0 in all else
 --   tourAnswer p k s l   == the answer to a tour of p that keeps k, with run-in length s and loop length l
 --   NoTour p             == the hard rule accepts no tour of p, of any lengths
@@ -16,6 +17,7 @@ use mathlib.Core.List.{List, _++_}
 use Prim.Native.Nat.{ℕ, _≤_}
 use lib.Count.{ones}
 use lib.ListN.{length, drop}
+use lib.Dec.{ltb}
 use Rattle.plan.specs.Refusal.{number, lineOf}
 use Rattle.plan.specs.Size.{size, loopRoom, roomy}
 use Rattle.plan.specs.Tour.{IsLasso, Hard, Soft}
@@ -33,7 +35,7 @@ pub data Verdict : Type 0 where
 
 unfoldable pub verdict : Outcome → Plan → ℕ → ℕ → Verdict
 verdict (outcome.Refused x) p r l = refuse x
-verdict outcome.Plan p r l = cond (roomy p r l) (go p) (refuse refusal.BufferTooShort)
+verdict outcome.Plan p r l = cond (ltb 2048 (size p)) (refuse refusal.ProductTooLarge) (cond (roomy p r l) (go p) (refuse refusal.BufferTooShort))
 
 abbrev pub refusalAnswer : Refusal → Answer
 refusalAnswer x = record { number = number x; line = lineOf x; cost = 0; kept = 0; count = 0; stem = 0; cycle = 0 }

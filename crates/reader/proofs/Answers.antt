@@ -1,9 +1,8 @@
--- What the parts of a plan file come to: the draft of its lines, and the answer, case by case. The size is judged on the product
--- held at 2,049, which is above 2,048 exactly where the product is.
+-- What the parts of a plan file come to: the draft of its lines, and the answer, case by case.
 use mathlib.Core.Path.{_≡_, refl, sym, ap, _∙_}
 use mathlib.Core.Bool.{Bool, true, false, cond}
 use mathlib.Core.List.{List}
-use Prim.Native.Nat.{ℕ, _^_, _≤_, _<_, min}
+use Prim.Native.Nat.{ℕ, _^_, _≤_, _<_}
 use native.Mathlib.Omega.{arith}
 use lib.ListN.{length}
 use lib.Dec.{ltb}
@@ -11,7 +10,6 @@ use borrow.Author.Tests.{lt-ltb, le-ltb, ltb-false}
 use Rattle.text.specs.Fault as fault
 use Rattle.text.specs.declared.fault.Fault.{Fault}
 use Rattle.text.specs.declared.fault.Fault.the-variants.{Form, Range}
-use Rattle.plan.specs.Size.{size}
 use Rattle.plan.specs.Refusal as refusal
 use Rattle.plan.specs.declared.Plan.{Plan}
 use Rattle.plan.specs.declared.Refusal.{Refusal}
@@ -21,7 +19,7 @@ use Rattle.reader.specs.Line.{lineOfOne, firstOf, finish}
 use Rattle.reader.specs.Blocks.{hardBlock, softBlocks}
 use Rattle.reader.specs.Map.{mapOf}
 use Rattle.reader.specs.Outcome.{number, lineOf}
-use Rattle.reader.specs.Reading.{draftOf, refuse, admit, answer, readPlan}
+use Rattle.reader.specs.Reading.{draftOf, refuse, answer, readPlan}
 use Rattle.reader.specs.declared.line.Numbers.{Numbers}
 use Rattle.reader.specs.declared.line.Cursor.{Cursor}
 use Rattle.reader.specs.declared.line.Line.{Line}
@@ -33,15 +31,6 @@ use Rattle.reader.specs.declared.Draft.{Draft}
 use Rattle.reader.specs.declared.Outcome.the-variants as outcome
 use Rattle.reader.specs.declared.Reading.{Reading}
 use Rattle.reader.proofs.Sticky.{faultAt, draft-early}
-
-module _ (p : Plan) where
-  pub too-large : (n : ℕ) → n ≡ min (size p) 2049 → 2048 < n → refuse cause.ProductTooLarge ≡ admit p
-  unfolding admit
-  too-large n e h = let k : 2048 < size p = omega arith in rw (lt-ltb 2048 (size p) k)
-
-  pub small-enough : (n : ℕ) → n ≡ min (size p) 2049 → n ≤ 2048 → _≡_ {A = Reading} (record { outcome = outcome.Plan; plan = p }) (admit p)
-  unfolding admit
-  small-enough n e h = let k : size p ≤ 2048 = omega arith in rw (le-ltb 2048 (size p) k)
 
 module _ (s : List ℕ) where
   pub draft-made : (m : Map) (bound : ℕ) (h : AutomatonBlock) (count : Line) (n : ℕ) (x : SoftBlocks) (l : Line)
@@ -75,36 +64,28 @@ module _ (s : List ℕ) where
     unfolding readPlan answer
     faulty f k = rw (le-ltb 60000 (length s) h, ← e, k)
 
-    pub faultless : (xs : Numbers) (c : Cursor) → d .line ≡ line.Numbers xs c → admit (d .plan) ≡ readPlan s
+    pub faultless : (xs : Numbers) (c : Cursor) → d .line ≡ line.Numbers xs c
+        → _≡_ {A = Reading} (record { outcome = outcome.Plan; plan = d .plan }) (readPlan s)
     unfolding readPlan answer
     faultless xs c k = rw (le-ltb 60000 (length s) h, ← e, k)
 
--- what is answered of a plan file: no number above 4, and no line beyond the one that may follow 60,000 line ends
+-- what is answered of a plan file: no number above 3, and no line beyond the one that may follow 60,000 line ends
 module _ (s : List ℕ) where
-  admitted : (p : Plan) → (number (admit p .outcome) ≤ 4) × (lineOf (admit p .outcome) ≡ 0)
-  unfolding admit
-  admitted p = by (ltb 2048 (size p))
-    where
-      by : (b : Bool) → (number (cond b (refuse cause.ProductTooLarge) (record { outcome = outcome.Plan; plan = p }) .outcome) ≤ 4)
-          × (lineOf (cond b (refuse cause.ProductTooLarge) (record { outcome = outcome.Plan; plan = p }) .outcome) ≡ 0)
-      by true = (omega arith, refl)
-      by false = (omega arith, refl)
-
-  fault-low : (f : Fault) → fault.number f ≤ 4
+  fault-low : (f : Fault) → fault.number f ≤ 3
   fault-low (Form n) = omega arith
   fault-low (Range n) = omega arith
 
-  answered : (l : Line) (p : Plan) → faultAt l ≤ 60001 → (number (answer l p .outcome) ≤ 4) × (lineOf (answer l p .outcome) ≤ 60001)
+  answered : (l : Line) (p : Plan) → faultAt l ≤ 60001 → (number (answer l p .outcome) ≤ 3) × (lineOf (answer l p .outcome) ≤ 60001)
   unfolding answer
   answered (line.Fault f) p h = (fault-low f, h)
-  answered (line.Numbers xs c) p h = (admitted p .0, omega (arith, admitted p .1))
+  answered (line.Numbers xs c) p h = (omega arith, omega arith)
 
-  pub read-low : (number (readPlan s .outcome) ≤ 4) × (lineOf (readPlan s .outcome) ≤ 60001)
+  pub read-low : (number (readPlan s .outcome) ≤ 3) × (lineOf (readPlan s .outcome) ≤ 60001)
   unfolding readPlan
   read-low = by (ltb 60000 (length s)) refl
     where
       by : (b : Bool) → ltb 60000 (length s) ≡ b
-          → (number (cond b (refuse cause.PlanTooLong) (answer (draftOf s .line) (draftOf s .plan)) .outcome) ≤ 4)
+          → (number (cond b (refuse cause.PlanTooLong) (answer (draftOf s .line) (draftOf s .plan)) .outcome) ≤ 3)
           × (lineOf (cond b (refuse cause.PlanTooLong) (answer (draftOf s .line) (draftOf s .plan)) .outcome) ≤ 60001)
       by true e = (omega arith, omega arith)
       by false e = answered (draftOf s .line) (draftOf s .plan) (omega (arith, draft-early s, ltb-false 60000 (length s) e))

@@ -1,6 +1,5 @@
--- A plan that was read is well formed, and its product has a size of at most 2,048 (`read-well`, `read-small`; `read-ok` of an answer).
--- The answer is a plan only where the text is short enough, no line has a fault
--- and the size is small; then every block was read without a fault.
+-- A plan that was read is well formed (`read-well`; `read-ok` of an answer). The answer is a plan only where the text is short
+-- enough and no line has a fault; then every block was read without a fault.
 use mathlib.Core.Path.{_≡_, refl, sym, ap, _∙_, subst}
 use mathlib.Core.Bool.{Bool, true, false, cond}
 use mathlib.Core.List.{List}
@@ -9,16 +8,14 @@ use native.Mathlib.Omega.{arith}
 use native.Mathlib.Nat.{one-le-pow}
 use lib.ListN.{length}
 use lib.Dec.{ltb}
-use borrow.Author.Tests.{ltb-false}
-use Rattle.plan.specs.Size.{size}
 use Rattle.plan.specs.WellFormed.{WellFormed}
 use Rattle.plan.specs.declared.Plan.{Plan}
-use Rattle.plan.specs.declared.Refusal.the-variants.{PlanTooLong, ProductTooLarge}
+use Rattle.plan.specs.declared.Refusal.the-variants.{PlanTooLong}
 use Rattle.reader.specs.Keys.{tourKey, marksKey, placesKey, startKey, roadsKey, rulesKey}
 use Rattle.reader.specs.Line.{lineOfOne, firstOf, top}
 use Rattle.reader.specs.Blocks.{labelBlock, roadBlock, hardBlock, softBlocks}
 use Rattle.reader.specs.Map.{mapOf}
-use Rattle.reader.specs.Reading.{draftOf, refuse, admit, answer, readPlan}
+use Rattle.reader.specs.Reading.{draftOf, refuse, answer, readPlan}
 use Rattle.reader.specs.declared.line.Line.{Line}
 use Rattle.reader.specs.declared.line.Line.the-variants as line
 use Rattle.reader.specs.declared.block.LabelBlock.{LabelBlock}
@@ -129,19 +126,12 @@ module _ (s : List ℕ) (e : good (draftOf s .line) ≡ true) where
 -- a plan is the answer only where nothing turns it away
 record Passed (l : Line) (p given : Plan) : Type 0 where
   pub no-fault : good l ≡ true
-  pub small : size p ≤ 2048
   pub same : given ≡ p
 
 answer-plan : (l : Line) (p : Plan) → answer l p .outcome ≡ outcome.Plan → Passed l p (answer l p .plan)
-unfolding answer admit
+unfolding answer
 answer-plan (line.Fault f) p e = let z : _≡_ {A = ℕ} 0 1 = cc in absurd (omega arith)
-answer-plan (line.Numbers xs c) p e = by-test (ltb 2048 (size p)) refl e
-  where
-    by-test : (t : Bool) → ltb 2048 (size p) ≡ t
-        → cond t (refuse ProductTooLarge) (record { outcome = outcome.Plan; plan = p }) .outcome ≡ outcome.Plan
-        → Passed (line.Numbers xs c) p (cond t (refuse ProductTooLarge) (record { outcome = outcome.Plan; plan = p }) .plan)
-    by-test true k e = let z : _≡_ {A = ℕ} 0 1 = cc in absurd (omega arith)
-    by-test false k e = record { no-fault = refl; small = ltb-false 2048 (size p) k; same = refl }
+answer-plan (line.Numbers xs c) p e = record { no-fault = refl; same = refl }
 
 module _ (s : List ℕ) (e : readPlan s .outcome ≡ outcome.Plan) where
   passed : Passed (draftOf s .line) (draftOf s .plan) (readPlan s .plan)
@@ -157,11 +147,8 @@ module _ (s : List ℕ) (e : readPlan s .outcome ≡ outcome.Plan) where
   pub read-well : WellFormed (readPlan s .plan)
   read-well = rw (passed .same) (draft-well s (passed .no-fault))
 
-  pub read-small : size (readPlan s .plan) ≤ 2048
-  read-small = rw (passed .same) (passed .small)
-
 -- the same of what the reader answered
-pub read-ok : (s : List ℕ) (r : Reading) → r ≡ readPlan s → r .outcome ≡ outcome.Plan → WellFormed (r .plan) × (size (r .plan) ≤ 2048)
+pub read-ok : (s : List ℕ) (r : Reading) → r ≡ readPlan s → r .outcome ≡ outcome.Plan → WellFormed (r .plan)
 read-ok s r same e =
     let o : readPlan s .outcome ≡ outcome.Plan = ap (λ x. x .outcome) (sym same) ∙ e in
-    subst (λ x. WellFormed (x .plan) × (size (x .plan) ≤ 2048)) (sym same) (read-well s o, read-small s o)
+    subst (λ x. WellFormed (x .plan)) (sym same) (read-well s o)

@@ -1,17 +1,13 @@
 -- The whole plan file (01, "The plan file" and "Why a plan is turned away").
---   draftOf s         == what all lines of s come to: the last of them or the first fault, and the plan that they make
---   DraftRead given r == r is the draft `given`; it has at most 8 soft rules
---   refuse r          == the answer that turns a plan away: the cause, and an empty plan
---   admit p           == the plan p, unless its product is too large
---   answer l p        == the answer to lines that end with l and make the plan p
---   readPlan s        == the answer to the plan file s: its length is judged before its lines, its lines before its size
-use mathlib.Core.Path.{_≡_}
+--   draftOf s  == what all lines of s come to: the last of them or the first fault, and the plan that they make
+--   refuse r   == the answer that turns a plan away: the cause, and an empty plan
+--   answer l p == the answer to lines that end with l and make the plan p
+--   readPlan s == the answer to the plan file s: its length is judged before its lines; the plan's size is left open
 use mathlib.Core.Bool.{cond}
 use mathlib.Core.List.{List}
-use Prim.Native.Nat.{ℕ, _^_, _≤_}
+use Prim.Native.Nat.{ℕ, _^_}
 use lib.ListN.{length}
 use lib.Dec.{ltb}
-use Rattle.plan.specs.Size.{size}
 use Rattle.plan.specs.WellFormed.{noPlan}
 use Rattle.plan.specs.declared.Plan.{Plan}
 use Rattle.plan.specs.declared.Refusal.{Refusal}
@@ -50,19 +46,12 @@ draftOf s =
       };
     }
 
-pub record DraftRead (given r : Draft) : Type 0 where
-  pub same : r ≡ given
-  pub rules : r .plan .rules ≤ 8
-
 abbrev pub refuse : Refusal → Reading
 refuse r = record { outcome = outcome.Refused r; plan = noPlan }
 
-unfoldable pub admit : Plan → Reading
-admit p = cond (ltb 2048 (size p)) (refuse refusal.ProductTooLarge) (record { outcome = outcome.Plan; plan = p })
-
 unfoldable pub answer : Line → Plan → Reading
 answer (line.Fault f) p = refuse (refusal.Line f)
-answer (line.Numbers xs c) p = admit p
+answer (line.Numbers xs c) p = record { outcome = outcome.Plan; plan = p }
 
 unfoldable pub readPlan : List ℕ → Reading
 readPlan s = cond (ltb 60000 (length s)) (refuse refusal.PlanTooLong) (answer (draftOf s .line) (draftOf s .plan))

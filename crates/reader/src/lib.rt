@@ -16,11 +16,9 @@ use plan::Plan;
 use plan::Refusal;
 use plan::refusal_line;
 use plan::refusal_number;
-use plan::size::held_size;
 ghost use mathlib.Core.Path.{_≡_};
-ghost use Prim.Native.Nat.{_≤_};
 ghost use Rattle.plan.specs.WellFormed.{noPlan};
-ghost use Rattle.reader.specs.Reading.{draftOf, DraftRead, refuse, admit, readPlan};
+ghost use Rattle.reader.specs.Reading.{draftOf, refuse, readPlan};
 ghost use Rattle.reader.specs.Outcome.{number, lineOf};
 
 // What the lines of a whole plan file come to: the last line or the first fault, and the plan, which stands if there is none.
@@ -30,7 +28,7 @@ pub struct Draft {
 }
 
 fn read_lines(s: &[u8]) -> Draft
-    ensures { λ r. ⌜ DraftRead (draftOf (now (s .entry))) r ⌝ }
+    ensures { λ r. ⌜ r ≡ draftOf (now (s .entry)) ⌝ }
 {
     let m = read_map(s);
     let map_line = m.line;
@@ -104,19 +102,7 @@ fn refuse(refusal: Refusal) -> Reading
     Reading { outcome, plan }
 }
 
-// The plan, unless its product is too large.
-fn admit(plan: Plan) -> Reading
-    requires { ⌜ plan .rules ≤ 8 ⌝ }
-    ensures { λ r. ⌜ r ≡ admit plan ⌝ }
-{
-    if 2048 < held_size(plan) {
-        return refuse(Refusal::ProductTooLarge);
-    }
-    let outcome = Outcome::Plan;
-    Reading { outcome, plan }
-}
-
-// The plan file in s: more than 60,000 bytes are turned away unread, then the first faulty line decides, then the size.
+// The plan file in s: more than 60,000 bytes are turned away unread, then the first faulty line decides.
 pub fn read_plan(s: &[u8]) -> Reading
     ensures { λ r. ⌜ r ≡ readPlan (now (s .entry)) ⌝ }
 {
@@ -127,7 +113,8 @@ pub fn read_plan(s: &[u8]) -> Reading
     let line = draft.line;
     let plan = draft.plan;
     let Line::Fault(fault) = line else {
-        return admit(plan);
+        let outcome = Outcome::Plan;
+        return Reading { outcome, plan };
     };
     refuse(Refusal::Line(fault))
 }

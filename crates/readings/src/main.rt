@@ -1,7 +1,11 @@
 //! Reads plan files from standard input, in frames, and writes, for each, the number of its outcome and the line that comes
-//! with it.
+//! with it. A plan whose product is too large is no plan here.
 use libc::STDOUT_FILENO;
+use plan::Plan;
+use plan::Refusal;
+use plan::size::held_size;
 use reader::Outcome;
+ghost use Prim.Native.Nat.{_≤_};
 
 fn wide(x: u32) -> u64 {
     x as u64
@@ -14,15 +18,33 @@ fn print_outcome(outcome: Outcome) {
     io::write_all(STDOUT_FILENO, b"\n");
 }
 
+fn print_plan(p: Plan)
+    requires { ⌜ p .rules ≤ 8 ⌝ }
+{
+    if 2048 < held_size(p) {
+        print_outcome(Outcome::Refused(Refusal::ProductTooLarge));
+    } else {
+        print_outcome(Outcome::Plan);
+    }
+}
+
+fn tell(text: &[u8]) {
+    let reading = reader::read_plan(text);
+    let outcome = reading.outcome;
+    let p = reading.plan;
+    match outcome {
+        Outcome::Plan => print_plan(p),
+        Outcome::Refused(x) => print_outcome(Outcome::Refused(x)),
+    }
+}
+
 // Prints what the reader makes of the next plan file; false where there is none.
 fn tell_next() -> bool {
     let mut buffer = io::large_buffer();
     let frame = frames::next(&mut buffer);
     if frame.found {
         let n = frame.length;
-        let r = reader::read_plan(&buffer[..n]);
-        let outcome = r.outcome;
-        print_outcome(outcome);
+        tell(&buffer[..n]);
     }
     frame.found
 }

@@ -1,4 +1,4 @@
--- `file_answer` meets its contract: a plan that was read is well formed and small, and a refusal is told as it is.
+-- `file_answer` meets its contract: a plan that was read is well formed, and a refusal is told as it is.
 use native.Mathlib.Omega.{arith}
 use Rattle.reader.proofs.Answers.{refused-early}
 use Rattle.reader.proofs.WellRead.{read-ok}

@@ -1,5 +1,4 @@
 -- `read_lines` meets its contract: the blocks in order make up the draft.
-use native.Mathlib.Omega.{arith}
 use Rattle.reader.proofs.Answers.{draft-made}
 use borrow.Author.Needs.{needs}
 use Rattle.reader.proofs.read_lines.Statement.{statement}
@@ -39,11 +38,8 @@ returns c =
     let count = soft .before .before in
     let hard = count .before .before in
     let map = hard .before .before in
-    record {
-      same = draft-made _ _ _ _ _ _ _ _ (map .read-map .ensures .same) (hard .before .label-count .ensures .0) (hard .hard-block .ensures)
-          (count .line-of-one .ensures .same) (soft .before .first-of .ensures) (soft .soft-blocks .ensures) (last .finish .ensures);
-      rules = omega (arith, soft .before .first-of .ensures, count .line-of-one .ensures .first-low);
-    }
+    draft-made _ _ _ _ _ _ _ _ (map .read-map .ensures .same) (hard .before .label-count .ensures .0) (hard .hard-block .ensures)
+    (count .line-of-one .ensures .same) (soft .before .first-of .ensures) (soft .soft-blocks .ensures) (last .finish .ensures)
 
 pub read-lines-spec : {M : Type 1} → statement M
 read-lines-spec =

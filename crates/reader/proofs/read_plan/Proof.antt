@@ -20,13 +20,10 @@ enum-known-line c = search needs
 enum-told : tie.Need-enum-told
 enum-told c = search needs
 
-admit-requires : tie.Need-admit-requires
-admit-requires c κs = search needs
-
 returns-2 : tie.Need-returns-2
 returns-2 c =
-    let read = c .before .before .before .before in
-    c .admit .ensures ∙ faultless _ (read .before .if1 .left) _ (read .read-lines .ensures .same) _ _ (c .before .enum-told .given .1)
+    let read = c .before .before .before in
+    faultless _ (read .before .if1 .left) _ (read .read-lines .ensures) _ _ (c .enum-told .given .1)
 
 refuse-requires-2 : tie.Need-refuse-requires-2
 refuse-requires-2 c κs = search needs
@@ -34,7 +31,7 @@ refuse-requires-2 c κs = search needs
 returns-3 : tie.Need-returns-3
 returns-3 c =
     let read = c .before .before .before .before .before in
-    c .refuse2 .ensures ∙ faulty _ (read .before .if1 .left) _ (read .read-lines .ensures .same) _ (c .before .before .line .given .1)
+    c .refuse2 .ensures ∙ faulty _ (read .before .if1 .left) _ (read .read-lines .ensures) _ (c .before .before .line .given .1)
 
 pub read-plan-spec : {M : Type 1} → statement M
 read-plan-spec =
@@ -45,7 +42,6 @@ read-plan-spec =
     read-lines-requires
     enum-known-line
     enum-told
-    admit-requires
     returns-2
     refuse-requires-2
     returns-3)

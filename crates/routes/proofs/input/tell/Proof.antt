@@ -1,4 +1,4 @@
--- `tell` is safe: a plan that was read is well formed and small.
+-- `tell` is safe: a plan that was read is well formed.
 use borrow.Author.Needs.{needs}
 use Rattle.reader.proofs.WellRead.{read-ok}
 use Rattle.routes.proofs.input.tell.Statement.{statement}
