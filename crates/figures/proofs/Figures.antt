@@ -26,7 +26,7 @@ use Rattle.plan.specs.Key.{tie, keyOf, key}
 use Rattle.plan.specs.declared.Plan.{Plan}
 use Rattle.plan.proofs.Keys.{key-mono, key-better}
 use Rattle.text.specs.Scan.{startsWith, isDigit, canonical, digitCount, value, leading, numberAt, keyAt}
-use Rattle.reader.specs.Line.{within, opened, beginLine, grown, passed, takeNumber, endLine, lineOfOne, lineOfTwo, lineOfFour, finish}
+use Rattle.reader.specs.Line.{within, lineOfOne, roadLine, moveLine, finish}
 use Rattle.reader.specs.Blocks.{repeat, labelBlock, roadBlock, moveBlock, automatonBlock, hardBlock, softBlock, softBlocks}
 use Rattle.reader.specs.Map.{mapOf}
 use Rattle.reader.specs.Reading.{draftOf, answer, readPlan}
@@ -165,7 +165,7 @@ pass-holds (f ∷ fs) h (suc i) l = pass-holds fs (and-right (passes f) (pass fs
 all-pass : pass figures ≡ true
 unfolding pass passes allOf bytes upcomingPlaces
     readPlan answer draftOf mapOf labelBlock roadBlock moveBlock automatonBlock hardBlock softBlock softBlocks repeat
-    within opened beginLine grown passed takeNumber endLine lineOfOne lineOfTwo lineOfFour finish startsWith isDigit canonical digitCount value leading numberAt keyAt
+    within lineOfOne roadLine moveLine finish startsWith isDigit canonical digitCount value leading numberAt keyAt
     size productBelow everyOf someOf listed shades parted walksBy allBelow arcOf nodeOf tuple encode stride radices
     joins step trapStep blocked leads fits guard anyBelow final bit coloursBelow costOf keyOf tie sumBelow ones onesIn
 all-pass = refl

@@ -12,7 +12,7 @@ use Rattle.reader.specs.declared.line.Line.{Line}
 use Rattle.reader.specs.declared.block.LabelBlock.{LabelBlock}
 use Rattle.reader.specs.declared.block.RoadBlock.{RoadBlock}
 use Rattle.reader.specs.declared.block.MoveBlock.{MoveBlock}
-use Rattle.reader.proofs.Chains.{one-read, two-read, four-read}
+use Rattle.reader.proofs.Lines.{one-is, road-is, move-is}
 
 -- what each line keeps of the block and of the count of lines read, n lines keep
 module _ {B : Type 0} (f : Filling B → Filling B) (Q : ℕ → B → Type 0) (next : (x : Filling B) → f x .next ≡ x .next + 1)
@@ -68,7 +68,7 @@ module _ (s : List ℕ) where
   unfolding labelBlock
   labels-filled l n bound =
       filled (labelStep s bound) (λ (i : ℕ) (b : LabelBlock). Column (bound - 1) i (b .labels)) (λ x. refl)
-      (λ x q. column-set _ q (one-read s (x .block .line) _ 0 bound .first-low))
+      (λ x q. column-set _ q (one-is s (x .block .line) _ 0 bound _ refl .first-low))
       n _ (column-zeros (bound - 1) 128)
 
   pub record RoadColumns (bound i : ℕ) (b : RoadBlock) : Type 0 where
@@ -79,7 +79,7 @@ module _ (s : List ℕ) where
   unfolding roadBlock
   roads-filled l n bound =
       filled (roadStep s bound) (RoadColumns bound) (λ x. refl)
-      (λ x q. let t = two-read s (x .block .line) _ bound in record { from = column-set _ (q .from) (t .first-low); to = column-set _ (q .to) (t .second-low) })
+      (λ x q. let t = road-is s (x .block .line) _ bound _ refl in record { from = column-set _ (q .from) (t .first-low); to = column-set _ (q .to) (t .second-low) })
       n _ (record { from = column-zeros (bound - 1) 1024; to = column-zeros (bound - 1) 1024 })
 
   pub record MoveColumns (q labels i : ℕ) (b : MoveBlock) : Type 0 where
@@ -92,7 +92,7 @@ module _ (s : List ℕ) where
   unfolding moveBlock
   moves-filled l n q labels =
       filled (moveStep s q labels) (MoveColumns q labels) (λ x. refl)
-      (λ x c. let t = four-read s (x .block .line) _ q labels in record {
+      (λ x c. let t = move-is s (x .block .line) _ q labels _ refl in record {
         from = column-set _ (c .from) (t .first-low);
         need = column-set _ (c .need) (t .second-low);
         bar = column-set _ (c .bar) (t .third-low);

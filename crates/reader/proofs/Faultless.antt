@@ -11,14 +11,14 @@ use lib.Seq.{getD-set-same, getD-set-other}
 use Rattle.automata.specs.WellFormed as automaton
 use Rattle.automata.specs.WellFormed.{ZeroFrom, noAutomaton}
 use Rattle.automata.specs.declared.Automaton.{Automaton}
-use Rattle.reader.specs.Line.{lineOfOne, lineOfTwo, lineOfFour, firstOf, finish}
+use Rattle.reader.specs.Line.{lineOfOne, roadLine, moveLine, firstOf, finish}
 use Rattle.reader.specs.Keys.{firstKey, acceptKey, movesKey, hardKey, softKey, weightKey}
 use Rattle.reader.specs.Blocks.{Filling, moveBlock, automatonBlock, hardBlock, softBlock, softStep, softBlocks}
 use Rattle.reader.specs.declared.line.Numbers.{Numbers}
 use Rattle.reader.specs.declared.line.Line.{Line}
 use Rattle.reader.specs.declared.line.Line.the-variants as line
 use Rattle.reader.specs.declared.block.SoftBlocks.{SoftBlocks}
-use Rattle.reader.proofs.Chains.{within-both, good, Led, First, one-led, two-led, four-led}
+use Rattle.reader.proofs.Lines.{within-both, good, Led, First, one-led, road-led, move-led}
 use Rattle.reader.proofs.Sticky.{Sticky, moves-keep, soft-keeps}
 use Rattle.reader.proofs.Columns.{filled, column-below, set-rest, zeros-rest, moves-filled}
 
@@ -32,8 +32,8 @@ led-faulty s Q l (line.Fault f) g p = refl
 pub faulty : (s : List ℕ) → Sticky s Faulty
 faulty s = record {
   one = λ l key low bound. led-faulty s _ l (lineOfOne s l key low bound) (one-led s l key low bound);
-  two = λ l key bound. led-faulty s _ l (lineOfTwo s l key bound) (two-led s l key bound);
-  four = λ l key outer inner. led-faulty s _ l (lineOfFour s l key outer inner) (four-led s l key outer inner);
+  road = λ l key bound. led-faulty s _ l (roadLine s l key bound) (road-led s l key bound);
+  move = λ l key q labels. led-faulty s _ l (moveLine s l key q labels) (move-led s l key q labels);
 }
 
 -- what keeps a fault has none only behind a line that has none

@@ -1,4 +1,4 @@
-pub mod Chains
+pub mod Lines
 pub mod Filling
 pub mod Steps
 pub mod Sequences

@@ -5,10 +5,11 @@ use mathlib.Core.List.{List}
 use Prim.Native.Nat.{ℕ, _+_}
 use lib.ListN.{set, replicate}
 use Rattle.reader.specs.Keys.{labelKey, roadKey, moveKey}
-use Rattle.reader.specs.Line.{lineOfOne, lineOfTwo, lineOfFour, firstOf, secondOf, thirdOf, fourthOf}
+use Rattle.reader.specs.Line.{lineOfOne, roadLine, moveLine, numbersOf, firstOf}
 use Rattle.automata.specs.declared.Automaton.{Automaton}
 use Rattle.automata.specs.WellFormed.{noAutomaton}
 use Rattle.reader.specs.Blocks.{labelStep, labelBlock, roadStep, roadBlock, moveStep, moveBlock, softBlock, softStep, softBlocks}
+use Rattle.reader.specs.declared.line.Numbers.{Numbers}
 use Rattle.reader.specs.declared.line.Line.{Line}
 use Rattle.reader.specs.declared.block.LabelBlock.{LabelBlock}
 use Rattle.reader.specs.declared.block.RoadBlock.{RoadBlock}
@@ -42,9 +43,9 @@ module _ (s : List ℕ) (bound : ℕ) where
   unfolding roadBlock
   roads-start l n = rest-start n (roadStep s bound) _
 
-  pub road-step : (i : ℕ) (l r : Line) (a b : List ℕ) (x y : ℕ) → r ≡ lineOfTwo s l roadKey bound → x ≡ firstOf r → y ≡ secondOf r
-      → roadStep s bound (record { next = i; block = roadsIn l a b }) ≡ record { next = i + 1; block = roadsIn r (set a i x) (set b i y) }
-  road-step i l r a b x y p q u = rw (q, u, p)
+  pub road-step : (i : ℕ) (l r : Line) (a b : List ℕ) (xs : Numbers) → r ≡ roadLine s l roadKey bound → xs ≡ numbersOf r
+      → roadStep s bound (record { next = i; block = roadsIn l a b }) ≡ record { next = i + 1; block = roadsIn r (set a i (xs .first)) (set b i (xs .second)) }
+  road-step i l r a b xs p q = rw (q, p)
 
 module _ (s : List ℕ) (states labels : ℕ) where
   pub moves-start : (l : Line) (n : ℕ)
@@ -52,11 +53,10 @@ module _ (s : List ℕ) (states labels : ℕ) where
   unfolding moveBlock
   moves-start l n = rest-start n (moveStep s states labels) _
 
-  pub move-step : (i : ℕ) (l r : Line) (a b c d : List ℕ) (x y z w : ℕ) → r ≡ lineOfFour s l moveKey states labels
-      → x ≡ firstOf r → y ≡ secondOf r → z ≡ thirdOf r → w ≡ fourthOf r
+  pub move-step : (i : ℕ) (l r : Line) (a b c d : List ℕ) (xs : Numbers) → r ≡ moveLine s l moveKey states labels → xs ≡ numbersOf r
       → moveStep s states labels (record { next = i; block = movesIn l a b c d })
-      ≡ record { next = i + 1; block = movesIn r (set a i x) (set b i y) (set c i z) (set d i w) }
-  move-step i l r a b c d x y z w p q u v t = rw (q, u, v, t, p)
+      ≡ record { next = i + 1; block = movesIn r (set a i (xs .first)) (set b i (xs .second)) (set c i (xs .third)) (set d i (xs .fourth)) }
+  move-step i l r a b c d xs p q = rw (q, p)
 
 module _ (s : List ℕ) (labels : ℕ) where
   pub softs-start : (l : Line) (n : ℕ) (none : Automaton) → none ≡ noAutomaton

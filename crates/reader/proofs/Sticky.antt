@@ -8,7 +8,7 @@ use lib.ListN.{length}
 use lib.Dec.{ltb}
 use Rattle.text.specs.Scan.{lineAt}
 use Rattle.text.specs.Fault as fault
-use Rattle.reader.specs.Line.{lineOfOne, lineOfTwo, lineOfFour, firstOf, top, finish}
+use Rattle.reader.specs.Line.{lineOfOne, roadLine, moveLine, firstOf, top, finish}
 use Rattle.reader.specs.Keys.{tourKey, marksKey, placesKey, startKey, roadsKey, firstKey, acceptKey, movesKey, hardKey, rulesKey, softKey, weightKey}
 use Rattle.reader.specs.Blocks.{repeat, Filling, labelStep, labelBlock, roadStep, roadBlock, moveStep, moveBlock, automatonBlock, hardBlock, softBlock, softStep, softBlocks}
 use Rattle.reader.specs.Map.{mapOf}
@@ -22,7 +22,7 @@ use Rattle.reader.specs.declared.block.RoadBlock.{RoadBlock}
 use Rattle.reader.specs.declared.block.MoveBlock.{MoveBlock}
 use Rattle.reader.specs.declared.block.SoftBlocks.{SoftBlocks}
 use Rattle.text.proofs.Newlines.{line-most}
-use Rattle.reader.proofs.Chains.{before, here, Led, one-led, two-led, four-led}
+use Rattle.reader.proofs.Lines.{before, here, Led, one-led, road-led, move-led}
 
 -- what f keeps, repeating f keeps
 pub repeat-keeps : {S : Type 0} (P : S → Type 0) (f : S → S) → ((x : S) → P x → P (f x)) → (n : ℕ) (x : S) → P x → P (repeat n f x)
@@ -33,8 +33,8 @@ repeat-keeps P f h (suc n) x p = repeat-keeps P f h n (f x) (h x p)
 -- P is kept by a line of every kind
 pub record Sticky (s : List ℕ) (P : Line → Type 0) : Type 0 where
   pub one : (l : Line) (key : List ℕ) (low bound : ℕ) → P l → P (lineOfOne s l key low bound)
-  pub two : (l : Line) (key : List ℕ) (bound : ℕ) → P l → P (lineOfTwo s l key bound)
-  pub four : (l : Line) (key : List ℕ) (outer inner : ℕ) → P l → P (lineOfFour s l key outer inner)
+  pub road : (l : Line) (key : List ℕ) (bound : ℕ) → P l → P (roadLine s l key bound)
+  pub move : (l : Line) (key : List ℕ) (q labels : ℕ) → P l → P (moveLine s l key q labels)
 
 module _ (s : List ℕ) (P : Line → Type 0) (k : Sticky s P) where
   pub labels-keep : (l : Line) (n bound : ℕ) → P l → P (labelBlock s l n bound .line)
@@ -43,11 +43,11 @@ module _ (s : List ℕ) (P : Line → Type 0) (k : Sticky s P) where
 
   pub roads-keep : (l : Line) (n bound : ℕ) → P l → P (roadBlock s l n bound .line)
   unfolding roadBlock
-  roads-keep l n bound = repeat-keeps (λ (x : Filling RoadBlock). P (x .block .line)) (roadStep s bound) (λ x. k .two (x .block .line) _ bound) n _
+  roads-keep l n bound = repeat-keeps (λ (x : Filling RoadBlock). P (x .block .line)) (roadStep s bound) (λ x. k .road (x .block .line) _ bound) n _
 
   pub moves-keep : (l : Line) (n q labels : ℕ) → P l → P (moveBlock s l n q labels .line)
   unfolding moveBlock
-  moves-keep l n q labels = repeat-keeps (λ (x : Filling MoveBlock). P (x .block .line)) (moveStep s q labels) (λ x. k .four (x .block .line) _ q labels) n _
+  moves-keep l n q labels = repeat-keeps (λ (x : Filling MoveBlock). P (x .block .line)) (moveStep s q labels) (λ x. k .move (x .block .line) _ q labels) n _
 
   pub automaton-keeps : (l : Line) (q labels : ℕ) → P l → P (automatonBlock s l q labels .line)
   unfolding automatonBlock
@@ -88,8 +88,8 @@ module _ (s : List ℕ) where
   early : Sticky s Early
   early = record {
     one = λ l key low bound. led-early _ l (lineOfOne s l key low bound) (one-led s l key low bound);
-    two = λ l key bound. led-early _ l (lineOfTwo s l key bound) (two-led s l key bound);
-    four = λ l key outer inner. led-early _ l (lineOfFour s l key outer inner) (four-led s l key outer inner);
+    road = λ l key bound. led-early _ l (roadLine s l key bound) (road-led s l key bound);
+    move = λ l key q labels. led-early _ l (moveLine s l key q labels) (move-led s l key q labels);
   }
 
   finish-early : (l : Line) → Early l → Early (finish s l)

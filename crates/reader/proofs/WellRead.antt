@@ -25,7 +25,7 @@ use Rattle.reader.specs.declared.Reading.{Reading}
 use Rattle.reader.specs.declared.Outcome.the-variants as outcome
 use Rattle.reader.proofs.Sticky.{labels-keep, roads-keep, hard-keeps, softs-keep}
 use Rattle.reader.proofs.Columns.{column-below, labels-filled, roads-filled}
-use Rattle.reader.proofs.Chains.{good}
+use Rattle.reader.proofs.Lines.{good}
 use Rattle.reader.proofs.Faultless.{Faulty, faulty, was-good, finish-good, OneGood, one-good, hard-read, softs-read}
 
 -- the lines of the map

@@ -14,7 +14,7 @@ use Prim.Native.Nat.{ℕ, zero, suc, _+_, _^_}
 use lib.ListN.{set, replicate}
 use Rattle.automata.specs.WellFormed.{noAutomaton}
 use Rattle.reader.specs.Keys.{labelKey, roadKey, moveKey, firstKey, acceptKey, movesKey, hardKey, softKey, weightKey}
-use Rattle.reader.specs.Line.{lineOfOne, lineOfTwo, lineOfFour, firstOf, secondOf, thirdOf, fourthOf}
+use Rattle.reader.specs.Line.{lineOfOne, roadLine, moveLine, numbersOf, firstOf}
 use Rattle.reader.specs.declared.line.Line.{Line}
 use Rattle.reader.specs.declared.block.LabelBlock.{LabelBlock}
 use Rattle.reader.specs.declared.block.RoadBlock.{RoadBlock}
@@ -42,10 +42,11 @@ labelBlock s prior n bound =
 
 abbrev pub roadStep : List ℕ → ℕ → Filling RoadBlock → Filling RoadBlock
 roadStep s bound x =
-    let l = lineOfTwo s (x .block .line) roadKey bound in
+    let l = roadLine s (x .block .line) roadKey bound in
+    let xs = numbersOf l in
     record {
       next = x .next + 1;
-      block = record { line = l; from = set (x .block .from) (x .next) (firstOf l); to = set (x .block .to) (x .next) (secondOf l) };
+      block = record { line = l; from = set (x .block .from) (x .next) (xs .first); to = set (x .block .to) (x .next) (xs .second) };
     }
 
 unfoldable pub roadBlock : List ℕ → Line → ℕ → ℕ → RoadBlock
@@ -54,15 +55,16 @@ roadBlock s prior n bound =
 
 abbrev pub moveStep : List ℕ → ℕ → ℕ → Filling MoveBlock → Filling MoveBlock
 moveStep s q labels x =
-    let l = lineOfFour s (x .block .line) moveKey q labels in
+    let l = moveLine s (x .block .line) moveKey q labels in
+    let xs = numbersOf l in
     record {
       next = x .next + 1;
       block = record {
         line = l;
-        from = set (x .block .from) (x .next) (firstOf l);
-        need = set (x .block .need) (x .next) (secondOf l);
-        bar = set (x .block .bar) (x .next) (thirdOf l);
-        to = set (x .block .to) (x .next) (fourthOf l);
+        from = set (x .block .from) (x .next) (xs .first);
+        need = set (x .block .need) (x .next) (xs .second);
+        bar = set (x .block .bar) (x .next) (xs .third);
+        to = set (x .block .to) (x .next) (xs .fourth);
       };
     }
 

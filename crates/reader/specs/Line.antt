@@ -1,130 +1,114 @@
 -- One line of a plan file (01, "The plan file"; the causes 2 and 3 of "Why a plan is turned away"). A line is read behind the
 -- line before it. Once a line has a fault, every later one is that fault again: the first faulty line decides. The line itself is
--- a chain of steps: its key, then number after number. A number of bad form is the fault at once; one out of its range is kept in
--- mind, and is the fault if the line ends well, so that form is judged before range.
---   within x low bound                 == x is at least low and below bound
---   blank                              == no numbers
---   noted xs k x                       == the numbers xs with x as number k, from 0
---   opened s at key                    == the chain of the line at index `at`, behind its key
---   beginLine s prior key              == the chain of the line behind `prior`, behind its key
---   grown s xs w k low bound x         == the chain over w, all its numbers xs in their ranges, and then x as number k
---   passed s w x                       == the chain over w, not all its numbers in their ranges, and then x
---   takeNumber s chain k low bound e   == the chain and then number k, ended by the byte e, with its range from low to below bound
---   endLine s chain                    == the line: its numbers with the next cursor, or its fault
---   lineOfOne s prior key low bound    == a line `key=a` with a from low to below bound
---   lineOfTwo s prior key bound        == a line `key=a,b`, both below bound
---   lineOfFour s prior key outer inner == a line `key=a,b,c,d`, a and d below outer, b and c below inner
---   numberOf f l                       == the number f of a line, 0 of a fault
---   firstOf, secondOf, thirdOf, fourthOf l == the numbers of a line in their order
---   top                                == before the first line
---   finish s last                      == the last line again, or a form fault of the next one where bytes follow it
---   OneRead given bound r              == r is the line `given`, and its number is at most bound - 1; so TwoRead, FourRead
+-- a chain of steps: its key, then number after number, each behind the one before (`nextNumber`); once one has a bad form, so have
+-- those behind it. The line is judged by its last number: its form, and then whether its numbers are in their ranges.
+--   behind prior read                == the line behind `prior`, by its index; the fault of `prior` where it has one
+--   noNumbers                        == what stands for the numbers of a fault
+--   badForm s at                     == the form fault of the line at index `at`
+--   judged s at next fit xs          == the line at index `at`, of good form: its numbers xs with the next cursor, or its range fault
+--   closed s at last fit xs          == the line at index `at` with the last number `last`: its form is judged before its ranges
+--   within x low bound               == x is at least low and below bound
+--   lineOfOne s prior key low bound  == a line `key=a` with a from low to below bound
+--   roadLine s prior key bound       == a line `key=a,b`, both below bound (roadFits)
+--   moveLine s prior key q labels    == a line `key=q,need,bar,r` of an automaton of q states (moveFits)
+--   numbersOf l                      == the numbers of a line
+--   firstOf l                        == the first of them
+--   top                              == before the first line
+--   finish s last                    == the last line again, or a form fault of the next one where bytes follow it
+--   OneRead given bound r            == r is the line `given`, and its number is at most bound - 1; so RoadRead, MoveRead
 use mathlib.Core.Path.{_≡_}
-use mathlib.Core.Bool.{Bool, false, cond}
+use mathlib.Core.Bool.{Bool, false, cond, _&&_}
 use mathlib.Core.List.{List}
 use Prim.Native.Nat.{ℕ, _-_, _≤_}
 use lib.ListN.{length}
-use lib.Dec.{ltb, eqb}
-use Rattle.text.specs.Scan.{keyAt, numberAt, lineAt}
+use lib.Dec.{ltb}
+use Rattle.text.specs.Scan.{keyAt, nextNumber, valueOf, lineAt}
 use Rattle.text.specs.declared.fault.Fault.the-variants.{Form, Range}
 use Rattle.text.specs.declared.read.Number.{Number}
 use Rattle.text.specs.declared.read.Number.the-variants.{Value, Bad}
 use Rattle.reader.specs.declared.line.Numbers.{Numbers}
-use Rattle.reader.specs.declared.line.Span.{Span}
-use Rattle.reader.specs.declared.line.Chain.{Chain}
-use Rattle.reader.specs.declared.line.Chain.the-variants as chain
 use Rattle.reader.specs.declared.line.Line.{Line}
 use Rattle.reader.specs.declared.line.Line.the-variants as line
+
+abbrev pub behind : Line → (ℕ → Line) → Line
+behind (line.Fault f) read = line.Fault f
+behind (line.Numbers xs c) read = read (c .at)
+
+abbrev pub noNumbers : Numbers
+noNumbers = record { first = 0; second = 0; third = 0; fourth = 0 }
+
+abbrev pub badForm : List ℕ → ℕ → Line
+badForm s at = line.Fault (Form (lineAt s at))
+
+abbrev pub judged : List ℕ → ℕ → ℕ → Bool → Numbers → Line
+judged s at next fit xs = cond fit (line.Numbers xs (record { at = next })) (line.Fault (Range (lineAt s at)))
+
+abbrev pub closed : List ℕ → ℕ → Number → Bool → Numbers → Line
+closed s at Bad fit xs = badForm s at
+closed s at (Value v i) fit xs = judged s at i fit xs
 
 unfoldable pub within : ℕ → ℕ → ℕ → Bool
 within x low bound = cond (ltb x low) false (ltb x bound)
 
-abbrev pub blank : Numbers
-blank = record { first = 0; second = 0; third = 0; fourth = 0 }
-
-abbrev pub noted : Numbers → ℕ → ℕ → Numbers
-noted xs k x =
-    cond (eqb k 0) (record { first = x; second = xs .second; third = xs .third; fourth = xs .fourth })
-    (cond (eqb k 1) (record { first = xs .first; second = x; third = xs .third; fourth = xs .fourth })
-    (cond (eqb k 2) (record { first = xs .first; second = xs .second; third = x; fourth = xs .fourth })
-    (record { first = xs .first; second = xs .second; third = xs .third; fourth = x })))
-
-unfoldable pub opened : List ℕ → ℕ → Number → Chain
-opened s at Bad = chain.Fault (Form (lineAt s at))
-opened s at (Value v i) = chain.Fit blank (record { from = at; next = i })
-
-unfoldable pub beginLine : List ℕ → Line → List ℕ → Chain
-beginLine s (line.Fault f) key = chain.Fault f
-beginLine s (line.Numbers xs c) key = opened s (c .at) (keyAt s (c .at) key)
-
-unfoldable pub grown : List ℕ → Numbers → Span → ℕ → ℕ → ℕ → Number → Chain
-grown s xs w k low bound Bad = chain.Fault (Form (lineAt s (w .from)))
-grown s xs w k low bound (Value v i) =
-    let further : Span = record { from = w .from; next = i } in
-    cond (within v low bound) (chain.Fit (noted xs k v) further) (chain.Unfit further)
-
-unfoldable pub passed : List ℕ → Span → Number → Chain
-passed s w Bad = chain.Fault (Form (lineAt s (w .from)))
-passed s w (Value v i) = chain.Unfit (record { from = w .from; next = i })
-
-unfoldable pub takeNumber : List ℕ → Chain → ℕ → ℕ → ℕ → ℕ → Chain
-takeNumber s (chain.Fit xs w) k low bound e = grown s xs w k low bound (numberAt s (w .next) e)
-takeNumber s (chain.Unfit w) k low bound e = passed s w (numberAt s (w .next) e)
-takeNumber s (chain.Fault f) k low bound e = chain.Fault f
-
-unfoldable pub endLine : List ℕ → Chain → Line
-endLine s (chain.Fit xs w) = line.Numbers xs (record { at = w .next })
-endLine s (chain.Unfit w) = line.Fault (Range (lineAt s (w .from)))
-endLine s (chain.Fault f) = line.Fault f
-
 unfoldable pub lineOfOne : List ℕ → Line → List ℕ → ℕ → ℕ → Line
-lineOfOne s prior key low bound = endLine s (takeNumber s (beginLine s prior key) 0 low bound 10)
+lineOfOne s prior key low bound =
+    behind prior
+    (λ at.
+    let a = nextNumber s (keyAt s at key) 10 in
+    closed s at a (within (valueOf a) low bound) (record { first = valueOf a; second = 0; third = 0; fourth = 0 }))
 
-unfoldable pub lineOfTwo : List ℕ → Line → List ℕ → ℕ → Line
-lineOfTwo s prior key bound = endLine s (takeNumber s (takeNumber s (beginLine s prior key) 0 0 bound 44) 1 0 bound 10)
+abbrev pub roadFits : Numbers → ℕ → Bool
+roadFits xs bound = ltb (xs .first) bound && ltb (xs .second) bound
 
-unfoldable pub lineOfFour : List ℕ → Line → List ℕ → ℕ → ℕ → Line
-lineOfFour s prior key outer inner =
-    let a = takeNumber s (beginLine s prior key) 0 0 outer 44 in
-    let b = takeNumber s a 1 0 inner 44 in
-    let c = takeNumber s b 2 0 inner 44 in
-    endLine s (takeNumber s c 3 0 outer 10)
+unfoldable pub roadLine : List ℕ → Line → List ℕ → ℕ → Line
+roadLine s prior key bound =
+    behind prior
+    (λ at.
+    let a = nextNumber s (keyAt s at key) 44 in
+    let b = nextNumber s a 10 in
+    let xs : Numbers = record { first = valueOf a; second = valueOf b; third = 0; fourth = 0 } in
+    closed s at b (roadFits xs bound) xs)
 
-abbrev pub numberOf : (Numbers → ℕ) → Line → ℕ
-numberOf f (line.Numbers xs c) = f xs
-numberOf f (line.Fault e) = 0
+abbrev pub moveFits : Numbers → ℕ → ℕ → Bool
+moveFits xs q labels = ltb (xs .first) q && ltb (xs .second) labels && ltb (xs .third) labels && ltb (xs .fourth) q
+
+unfoldable pub moveLine : List ℕ → Line → List ℕ → ℕ → ℕ → Line
+moveLine s prior key q labels =
+    behind prior
+    (λ at.
+    let a = nextNumber s (keyAt s at key) 44 in
+    let b = nextNumber s a 44 in
+    let c = nextNumber s b 44 in
+    let d = nextNumber s c 10 in
+    let xs : Numbers = record { first = valueOf a; second = valueOf b; third = valueOf c; fourth = valueOf d } in
+    closed s at d (moveFits xs q labels) xs)
+
+abbrev pub numbersOf : Line → Numbers
+numbersOf (line.Numbers xs c) = xs
+numbersOf (line.Fault f) = noNumbers
 
 abbrev pub firstOf : Line → ℕ
-firstOf = numberOf (λ xs. xs .first)
-
-abbrev pub secondOf : Line → ℕ
-secondOf = numberOf (λ xs. xs .second)
-
-abbrev pub thirdOf : Line → ℕ
-thirdOf = numberOf (λ xs. xs .third)
-
-abbrev pub fourthOf : Line → ℕ
-fourthOf = numberOf (λ xs. xs .fourth)
+firstOf l = numbersOf l .first
 
 abbrev pub top : Line
-top = line.Numbers blank (record { at = 0 })
+top = line.Numbers noNumbers (record { at = 0 })
 
 unfoldable pub finish : List ℕ → Line → Line
 finish s (line.Fault f) = line.Fault f
-finish s (line.Numbers xs c) = cond (ltb (c .at) (length s)) (line.Fault (Form (lineAt s (c .at)))) (line.Numbers xs c)
+finish s (line.Numbers xs c) = cond (ltb (c .at) (length s)) (badForm s (c .at)) (line.Numbers xs c)
 
 pub record OneRead (given : Line) (bound : ℕ) (r : Line) : Type 0 where
   pub same : r ≡ given
-  pub first-low : firstOf r ≤ bound - 1
+  pub first-low : numbersOf r .first ≤ bound - 1
 
-pub record TwoRead (given : Line) (bound : ℕ) (r : Line) : Type 0 where
+pub record RoadRead (given : Line) (bound : ℕ) (r : Line) : Type 0 where
   pub same : r ≡ given
-  pub first-low : firstOf r ≤ bound - 1
-  pub second-low : secondOf r ≤ bound - 1
+  pub first-low : numbersOf r .first ≤ bound - 1
+  pub second-low : numbersOf r .second ≤ bound - 1
 
-pub record FourRead (given : Line) (outer inner : ℕ) (r : Line) : Type 0 where
+pub record MoveRead (given : Line) (q labels : ℕ) (r : Line) : Type 0 where
   pub same : r ≡ given
-  pub first-low : firstOf r ≤ outer - 1
-  pub second-low : secondOf r ≤ inner - 1
-  pub third-low : thirdOf r ≤ inner - 1
-  pub fourth-low : fourthOf r ≤ outer - 1
+  pub first-low : numbersOf r .first ≤ q - 1
+  pub second-low : numbersOf r .second ≤ labels - 1
+  pub third-low : numbersOf r .third ≤ labels - 1
+  pub fourth-low : numbersOf r .fourth ≤ q - 1

@@ -1,12 +1,10 @@
 //! Blocks of lines: labels, roads, moves, and the automata of the hard rule and of the soft rules.
 use crate::line::Line;
 use crate::line::first_of;
-use crate::line::fourth_of;
-use crate::line::line_of_four;
 use crate::line::line_of_one;
-use crate::line::line_of_two;
-use crate::line::second_of;
-use crate::line::third_of;
+use crate::line::move_line;
+use crate::line::numbers_of;
+use crate::line::road_line;
 use automata::Automaton;
 ghost use mathlib.Core.Path.{_≡_};
 ghost use Prim.Native.Nat.{_^_, _≤_};
@@ -50,9 +48,10 @@ pub fn road_block(s: &[u8], prior: Line, n: usize, bound: u32) -> RoadBlock
     let mut to = [0u8; 1024];
     let mut i = 0;
     while i < n {
-        line = line_of_two(s, line, b"road=", bound);
-        from[i] = first_of(line) as u8;
-        to[i] = second_of(line) as u8;
+        line = road_line(s, line, b"road=", bound);
+        let xs = numbers_of(line);
+        from[i] = xs.first as u8;
+        to[i] = xs.second as u8;
         i += 1;
     }
     RoadBlock { line, from, to }
@@ -78,11 +77,12 @@ pub fn move_block(s: &[u8], prior: Line, n: usize, states: u32, labels: u32) -> 
     let mut to = [0u8; 64];
     let mut i = 0;
     while i < n {
-        line = line_of_four(s, line, b"move=", states, labels);
-        from[i] = first_of(line) as u8;
-        need[i] = second_of(line) as u8;
-        bar[i] = third_of(line) as u8;
-        to[i] = fourth_of(line) as u8;
+        line = move_line(s, line, b"move=", states, labels);
+        let xs = numbers_of(line);
+        from[i] = xs.first as u8;
+        need[i] = xs.second as u8;
+        bar[i] = xs.third as u8;
+        to[i] = xs.fourth as u8;
         i += 1;
     }
     MoveBlock {

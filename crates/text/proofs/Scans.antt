@@ -10,17 +10,17 @@ use native.Mathlib.Numerals.{add-one}
 use native.Mathlib.Nat.{add-zero}
 use lib.ListN.{length, drop, getD, drop-of-length-le, length-drop}
 use lib.Seq.{drop-cons, getD-drop}
-use borrow.Author.Tests.{lt-ltb, le-ltb, ltb-false, eq-eqb, ne-eqb}
+use borrow.Author.Tests.{lt-ltb, le-ltb, ltb-false, leb-true, eq-eqb, ne-eqb}
 use Rattle.text.specs.Scan.{isDigit, canonical, digitCount, value, leading, numberAt, cap}
 use Rattle.text.specs.declared.read.Number.the-variants.{Value, Bad}
 
-not-low : (t u : Bool) → cond t false u ≡ true → t ≡ false
-not-low true u e = sym e
-not-low false u e = refl
+last-two : (t u : Bool) → cond t false u ≡ true → (t ≡ false) × (u ≡ true)
+last-two true u e = let z : _≡_ {A = ℕ} 0 1 = cc in absurd (omega arith)
+last-two false u e = (refl, e)
 
-pub digit-least : (b : ℕ) → isDigit b ≡ true → 48 ≤ b
+pub digit-range : (b : ℕ) → isDigit b ≡ true → (48 ≤ b) × (b ≤ 57)
 unfolding isDigit
-digit-least b e = ltb-false b 48 (not-low _ _ e)
+digit-range b e = let h = last-two _ _ e in (ltb-false b 48 (h .0), leb-true b 57 (h .1))
 
 module _ (M : ℕ) where
   held-more : (t : Bool) (v x : ℕ) (d : List ℕ) → ((w : ℕ) → min (value w d) M ≡ min (value (min w M) d) M)
@@ -87,7 +87,7 @@ module _ (s : List ℕ) (at i e : ℕ) (from : at ≤ i) (count : digitCount (dr
       unfolding numberAt leading cap
       not-canonical c = rw (count, lt-ltb _ _ inside, last, eq-eqb _ _ k, first, c)
 
-      pub number-read : canonical (getD s at 0) (i - at) ≡ true → (v : ℕ) → v ≡ min (value 0 (drop at s)) 4294967295
+      pub number-read : canonical (getD s at 0) (i - at) ≡ true → (v : ℕ) → v ≡ min (value 0 (drop at s)) 4000000000
           → Value v (i + 1) ≡ cap (numberAt s at e)
       unfolding numberAt leading cap
       number-read c v w =

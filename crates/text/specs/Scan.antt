@@ -8,7 +8,9 @@
 --   leading d at e     == the number that d begins with, where d stands at index `at` of a text
 --   numberAt s at e    == the number at index `at` of s, ended by the byte e, with the index just past e; Bad if none is there
 --   keyAt s at key     == the key at index `at` of s, as a number 0, with the index just past it; Bad if it is not there
---   cap n              == n with its value held at 2^32 - 1; no part of the format, it says what the code knows of a number
+--   nextNumber s n e   == the number behind n, ended by the byte e; Bad if n is: a chain of numbers stays bad
+--   valueOf n          == the value of a number, 0 of Bad
+--   cap n              == n with its value held at 4,000,000,000; no part of the format, it says what the code knows of a number
 --   newline b          == 1 for the byte 10, 0 for any other
 --   newlines d         == how many bytes of d are 10
 --   lineAt s at        == the line, from 1, that begins at index `at` of s
@@ -54,8 +56,16 @@ numberAt s at e = leading (drop at s) at e
 unfoldable pub keyAt : List ℕ → ℕ → List ℕ → Number
 keyAt s at key = pick (startsWith key (drop at s)) (Value 0 (at + length key))
 
+abbrev pub nextNumber : List ℕ → Number → ℕ → Number
+nextNumber s (Value v i) e = numberAt s i e
+nextNumber s Bad e = Bad
+
+abbrev pub valueOf : Number → ℕ
+valueOf (Value v i) = v
+valueOf Bad = 0
+
 unfoldable pub cap : Number → Number
-cap (Value v i) = Value (min v 4294967295) i
+cap (Value v i) = Value (min v 4000000000) i
 cap Bad = Bad
 
 abbrev pub newline : ℕ → ℕ

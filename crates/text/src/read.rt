@@ -57,25 +57,26 @@ pub fn wide(x: u32) -> u64
     x as u64
 }
 
-fn wide_byte(x: u8) -> u64
-    ensures { λ r. ⌜ (r ≡ x) × (r < 256) ⌝ }
+// The digit that the byte writes.
+fn digit_of(b: u8) -> u32
+    requires { ⌜ (48 ≤ b) × (b ≤ 57) ⌝ }
+    ensures { λ r. ⌜ (r ≡ b - 48) × (r ≤ 9) ⌝ }
 {
-    x as u64
+    (b - b'0') as u32
 }
 
-// One digit more, held at 2^32 - 1.
+// One digit more, held at 4,000,000,000.
 fn append_digit(v: u32, b: u8) -> u32
-    requires { ⌜ 48 ≤ b ⌝ }
-    ensures { λ r. ⌜ r ≡ min (v * 10 + (b - 48)) 4294967295 ⌝ }
+    requires { ⌜ (48 ≤ b) × (b ≤ 57) ⌝ }
+    ensures { λ r. ⌜ r ≡ min (v * 10 + (b - 48)) 4000000000 ⌝ }
 {
-    let w = wide(v) * 10 + wide_byte(b - b'0');
-    if w < 4294967295 {
-        return w as u32;
+    if v < 400000000 {
+        return v * 10 + digit_of(b);
     }
-    4294967295
+    4000000000
 }
 
-// The decimal number at index `at`, of any digit count, ended by the byte `end`. Its value is held at 2^32 - 1.
+// The decimal number at index `at`, of any digit count, ended by the byte `end`. Its value is held at 4,000,000,000.
 pub fn number_at(s: &[u8], at: usize, end: u8) -> Number
     ensures { λ r. ⌜ r ≡ cap (numberAt (now (s .entry)) at end) ⌝ }
 {

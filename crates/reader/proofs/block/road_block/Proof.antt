@@ -5,6 +5,7 @@ use Prim.Native.Nat.{ℕ, _-_, _≤_}
 use native.Mathlib.Omega.{arith}
 use Rattle.reader.specs.Blocks.{roadStep, roadBlock}
 use Rattle.reader.specs.declared.line.Line.{Line}
+use Rattle.reader.proofs.Lines.{byte}
 use Rattle.reader.proofs.Filling.{rest, rest-step, rest-end}
 use Rattle.reader.proofs.Steps.{roadsIn, roads-start, road-step}
 use borrow.Author.Needs.{needs}
@@ -18,34 +19,42 @@ record Read (s : List ℕ) (n bound : ℕ) (prior line : Line) (from to : List �
   pub same : roadBlock s prior n bound ≡ rest n (roadStep s bound) i (roadsIn line from to)
 
 abbrev Inv-loop : tie.InvT-loop
-Inv-loop s n bound line₀ from₀ to₀ i₀ t9 line from to i = Read s n bound line₀ line from to i
+Inv-loop s n bound line₀ from₀ to₀ i₀ t10 line from to i = Read s n bound line₀ line from to i
 
 abbrev μ-loop : tie.MeasureT-loop
-μ-loop s n bound line₀ from₀ to₀ i₀ t9 line from to i = n - i
+μ-loop s n bound line₀ from₀ to₀ i₀ t10 line from to i = n - i
+
+-- the places that the answers refer to: a turn, and where its line was read
+abbrev read : tie.After-numbers-of Inv-loop μ-loop → tie.After-road-line Inv-loop μ-loop
+read n = n .before
+
+abbrev turn : tie.After-numbers-of Inv-loop μ-loop → tie.In-loop Inv-loop μ-loop
+turn n = read n .before .before
 
 loop-holds : tie.Need-loop-holds Inv-loop μ-loop
 loop-holds c = record { within = omega arith; room = search needs; bytes = search needs; same = roads-start _ _ _ _ }
 
-slice-aggregate-line-of-two : tie.Need-slice-aggregate-line-of-two Inv-loop μ-loop
-slice-aggregate-line-of-two c = search needs
+slice-aggregate-road-line : tie.Need-slice-aggregate-road-line Inv-loop μ-loop
+slice-aggregate-road-line c = search needs
 
-line-of-two-requires : tie.Need-line-of-two-requires Inv-loop μ-loop
-line-of-two-requires c κs = search needs
+road-line-requires : tie.Need-road-line-requires Inv-loop μ-loop
+road-line-requires c κs = search needs
 
-first-of-requires : tie.Need-first-of-requires Inv-loop μ-loop
-first-of-requires c κs = search needs
+numbers-of-requires : tie.Need-numbers-of-requires Inv-loop μ-loop
+numbers-of-requires c κs = search needs
 
 cast-from : tie.Need-cast-from Inv-loop μ-loop
-cast-from c = search needs
+cast-from c =
+    let n = c .before in
+    record { fits = byte (λ xs. xs .first) _ _ _ (n .numbers-of .ensures) (read n .road-line .ensures .first-low) (turn n .before .loop .inv .bytes) }
 
 array-write-from : tie.Need-array-write-from Inv-loop μ-loop
 array-write-from c = search needs
 
-second-of-requires : tie.Need-second-of-requires Inv-loop μ-loop
-second-of-requires c κs = search needs
-
 cast-to : tie.Need-cast-to Inv-loop μ-loop
-cast-to c = search needs
+cast-to c =
+    let n = c .before .before in
+    record { fits = byte (λ xs. xs .second) _ _ _ (n .numbers-of .ensures) (read n .road-line .ensures .second-low) (turn n .before .loop .inv .bytes) }
 
 array-write-to : tie.Need-array-write-to Inv-loop μ-loop
 array-write-to c = search needs
@@ -58,13 +67,13 @@ loop-less c = search needs
 
 loop-again : tie.Need-loop-again Inv-loop μ-loop
 loop-again c =
-    let l = c .before .before .before .before .before .loop in
+    let n = c .before .before in let l = turn n .before .loop in
     record {
       within = omega arith;
       room = l .inv .room;
       bytes = l .inv .bytes;
-      same = rest-step _ _ _ _ _ (l .inv .same) (c .before .before .before .before .loop-test .taken) _
-          (road-step _ _ _ _ _ (l .from) (l .to) _ _ (c .before .before .line-of-two .ensures .same) (c .before .first-of .ensures) (c .second-of .ensures));
+      same = rest-step _ _ _ _ _ (l .inv .same) (turn n .loop-test .taken) _
+          (road-step _ _ _ _ _ (l .from) (l .to) _ (read n .road-line .ensures .same) (n .numbers-of .ensures));
     }
 
 returns : tie.Need-returns Inv-loop μ-loop
@@ -77,12 +86,11 @@ road-block-spec =
     Inv-loop
     μ-loop
     loop-holds
-    slice-aggregate-line-of-two
-    line-of-two-requires
-    first-of-requires
+    slice-aggregate-road-line
+    road-line-requires
+    numbers-of-requires
     cast-from
     array-write-from
-    second-of-requires
     cast-to
     array-write-to
     add-i

@@ -1,4 +1,4 @@
--- `number_at` meets its contract. The loop keeps, of the digits passed, their count and their value held at 2^32 - 1; at the
+-- `number_at` meets its contract. The loop keeps, of the digits passed, their count and their value held at 4,000,000,000; at the
 -- first byte that is no digit, and at the end of the text, `numberAt` is computed from both.
 use mathlib.Core.Path.{_≡_, sym, _∙_}
 use mathlib.Core.Bool.{false}
@@ -8,7 +8,7 @@ use native.Mathlib.Omega.{arith}
 use lib.ListN.{length, drop, getD}
 use borrow.Author.Tests.{not-true, not-false}
 use Rattle.text.specs.Scan.{isDigit, digitCount, value}
-use Rattle.text.proofs.Scans.{digit-least, none-past, none-here, value-here, digit-count-more, held-value, ends-text, ends-otherwise, not-canonical, number-read}
+use Rattle.text.proofs.Scans.{digit-range, none-past, none-here, value-here, digit-count-more, held-value, ends-text, ends-otherwise, not-canonical, number-read}
 use borrow.Author.Needs.{needs}
 use Rattle.text.proofs.read.number_at.Statement.{statement}
 use Rattle.text.proofs.read.number_at.Tie as tie
@@ -18,8 +18,8 @@ record Scanned (s : List ℕ) (at i v : ℕ) : Type 0 where
   -- the bytes passed are digits
   pub count : digitCount (drop at s) ≡ (i - at) + digitCount (drop i s)
   -- v is their value, held
-  pub held : min (value 0 (drop at s)) 4294967295 ≡ min (value v (drop i s)) 4294967295
-  pub small : v ≤ 4294967295
+  pub held : min (value 0 (drop at s)) 4000000000 ≡ min (value v (drop i s)) 4000000000
+  pub small : v ≤ 4000000000
 
 abbrev Inv-loop : tie.InvT-loop
 Inv-loop s at end i₀ v₀ i v = Scanned s at i v
@@ -90,7 +90,7 @@ returns-3 c =
     (sym (c .before .canonical .ensures) ∙ c .if3 .left)
 
 append-digit-requires : tie.Need-append-digit-requires Inv-loop μ-loop
-append-digit-requires c κs = digit-least _ (sym (c .before .digit .ensures) ∙ not-false _ (c .if1 .left))
+append-digit-requires c κs = digit-range _ (sym (c .before .digit .ensures) ∙ not-false _ (c .if1 .left))
 
 add-i : tie.Need-add-i Inv-loop μ-loop
 add-i c = search needs
@@ -107,7 +107,7 @@ loop-again c =
     record {
       from = omega (arith, l .inv .from);
       count = omega (arith, l .inv .count, l .inv .from, digit-count-more s (l .i) h d);
-      held = l .inv .held ∙ held-value s (l .i) h d 4294967295 (l .v) ∙ rw (← c .append-digit .ensures);
+      held = l .inv .held ∙ held-value s (l .i) h d 4000000000 (l .v) ∙ rw (← c .append-digit .ensures);
       small = omega (arith, c .append-digit .ensures);
     }
 

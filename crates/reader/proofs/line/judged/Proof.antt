@@ -1,0 +1,16 @@
+-- `judged` meets its contract: each return is one case of its definition.
+use borrow.Author.Needs.{needs}
+use Rattle.reader.proofs.line.judged.Statement.{statement}
+use Rattle.reader.proofs.line.judged.Tie as tie
+
+returns : tie.Need-returns
+returns c = rw (c .if1 .taken)
+
+line-at-requires : tie.Need-line-at-requires
+line-at-requires c κs = search needs
+
+returns-2 : tie.Need-returns-2
+returns-2 c = rw (c .before .if1 .left, c .line-at .ensures)
+
+pub judged-spec : {M : Type 1} → statement M
+judged-spec = tie.close (tie.spec returns line-at-requires returns-2)

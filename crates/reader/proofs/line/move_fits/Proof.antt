@@ -1,0 +1,19 @@
+-- `move_fits` meets its contract: each return is one case of the conjunction.
+use borrow.Author.Tests.{lt-ltb, le-ltb}
+use Rattle.reader.proofs.line.move_fits.Statement.{statement}
+use Rattle.reader.proofs.line.move_fits.Tie as tie
+
+returns : tie.Need-returns
+returns c = rw (le-ltb _ _ (c .if1 .taken))
+
+returns-2 : tie.Need-returns-2
+returns-2 c = rw (lt-ltb _ _ (c .before .before .if1 .left), le-ltb _ _ (c .if2 .taken))
+
+returns-3 : tie.Need-returns-3
+returns-3 c = rw (lt-ltb _ _ (c .before .before .before .before .if1 .left), lt-ltb _ _ (c .before .before .if2 .left), le-ltb _ _ (c .if3 .taken))
+
+returns-4 : tie.Need-returns-4
+returns-4 c = rw (lt-ltb _ _ (c .before .before .before .before .before .if1 .left), lt-ltb _ _ (c .before .before .before .if2 .left), lt-ltb _ _ (c .before .if3 .left))
+
+pub move-fits-spec : {M : Type 1} → statement M
+move-fits-spec = tie.close (tie.spec returns returns-2 returns-3 returns-4)
