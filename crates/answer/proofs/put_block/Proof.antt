@@ -4,33 +4,6 @@ use Rattle.answer.proofs.Blocks.{block-done}
 use Rattle.answer.proofs.put_block.Statement.{statement}
 use Rattle.answer.proofs.put_block.Tie as tie
 
-put-little-requires : tie.Need-put-little-requires
-put-little-requires c κs = search needs
-
-put-little-requires-2 : tie.Need-put-little-requires-2
-put-little-requires-2 c κs = search needs
-
-put-little-requires-3 : tie.Need-put-little-requires-3
-put-little-requires-3 c κs = search needs
-
-put-little-requires-4 : tie.Need-put-little-requires-4
-put-little-requires-4 c κs = search needs
-
-put-little-requires-5 : tie.Need-put-little-requires-5
-put-little-requires-5 c κs = search needs
-
-put-little-requires-6 : tie.Need-put-little-requires-6
-put-little-requires-6 c κs = search needs
-
-put-little-requires-7 : tie.Need-put-little-requires-7
-put-little-requires-7 c κs = search needs
-
-put-little-requires-8 : tie.Need-put-little-requires-8
-put-little-requires-8 c κs = search needs
-
-same-length : tie.Need-same-length
-same-length c = search needs
-
 returns : tie.Need-returns
 returns c =
     let c₈ = c .before .before in
@@ -56,13 +29,13 @@ pub put-block-spec : {M : Type 1} → statement M
 put-block-spec =
     tie.close
     (tie.spec
-    put-little-requires
-    put-little-requires-2
-    put-little-requires-3
-    put-little-requires-4
-    put-little-requires-5
-    put-little-requires-6
-    put-little-requires-7
-    put-little-requires-8
-    same-length
+    (λ c κs. search needs)
+    (λ c κs. search needs)
+    (λ c κs. search needs)
+    (λ c κs. search needs)
+    (λ c κs. search needs)
+    (λ c κs. search needs)
+    (λ c κs. search needs)
+    (λ c κs. search needs)
+    (λ c. search needs)
     returns)

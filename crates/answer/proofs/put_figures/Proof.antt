@@ -70,39 +70,24 @@ lined c = c .before .before .before .before
 abbrev costed : tie.After-put-number-line-arg8 → tie.After-put-number-line3
 costed c = c .before .before .before .before
 
-slice-aggregate-put-number-line : tie.Need-slice-aggregate-put-number-line
-slice-aggregate-put-number-line c = search needs
-
 put-number-line-requires : tie.Need-put-number-line-requires
 put-number-line-requires c κs = let s = start c in first-room (s .args .a) (s .args .out .now) (s .pre)
-
-slice-aggregate-put-number-line-2 : tie.Need-slice-aggregate-put-number-line-2
-slice-aggregate-put-number-line-2 c = search needs
 
 put-number-line-requires-2 : tie.Need-put-number-line-requires-2
 put-number-line-requires-2 c κs =
     let n = numbered c in let s = start (n .before) in
     second-room (s .args .a) (s .args .out .now) (s .pre) (n .put-number-line .ensures)
 
-slice-aggregate-put-number-line-3 : tie.Need-slice-aggregate-put-number-line-3
-slice-aggregate-put-number-line-3 c = search needs
-
 put-number-line-requires-3 : tie.Need-put-number-line-requires-3
 put-number-line-requires-3 c κs =
     let l = lined c in let n = numbered (l .before) in let s = start (n .before) in
     third-room (s .args .a) (s .args .out .now) (s .pre) (n .put-number-line .ensures) (l .put-number-line2 .ensures)
-
-slice-aggregate-put-number-line-4 : tie.Need-slice-aggregate-put-number-line-4
-slice-aggregate-put-number-line-4 c = search needs
 
 put-number-line-requires-4 : tie.Need-put-number-line-requires-4
 put-number-line-requires-4 c κs =
     let o = costed c in let l = lined (o .before) in let n = numbered (l .before) in let s = start (n .before) in
     fourth-room (s .args .a) (s .args .out .now) (s .pre) (n .put-number-line .ensures) (l .put-number-line2 .ensures)
     (o .put-number-line3 .ensures)
-
-same-length : tie.Need-same-length
-same-length c = search needs
 
 returns : tie.Need-returns
 returns c =
@@ -116,13 +101,13 @@ pub put-figures-spec : {M : Type 1} → statement M
 put-figures-spec =
     tie.close
     (tie.spec
-    slice-aggregate-put-number-line
+    (λ c. search needs)
     put-number-line-requires
-    slice-aggregate-put-number-line-2
+    (λ c. search needs)
     put-number-line-requires-2
-    slice-aggregate-put-number-line-3
+    (λ c. search needs)
     put-number-line-requires-3
-    slice-aggregate-put-number-line-4
+    (λ c. search needs)
     put-number-line-requires-4
-    same-length
+    (λ c. search needs)
     returns)

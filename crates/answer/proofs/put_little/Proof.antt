@@ -47,29 +47,11 @@ loop-holds c =
     let a = c .args in
     (omega arith, start (a .block .now) (a .at) (a .n) (a .x) (omega arith))
 
-cast-block : tie.Need-cast-block Inv-loop μ-loop
-cast-block c = search needs
-
-add-block : tie.Need-add-block Inv-loop μ-loop
-add-block c = search needs
-
-slice-write-block : tie.Need-slice-write-block Inv-loop μ-loop
-slice-write-block c = search needs
-
-add-i : tie.Need-add-i Inv-loop μ-loop
-add-i c = search needs
-
-loop-less : tie.Need-loop-less Inv-loop μ-loop
-loop-less c = search needs
-
 loop-again : tie.Need-loop-again Inv-loop μ-loop
 loop-again c =
     let a = c .before .before .args in
     let l = c .before .loop in
     (omega arith, next (a .at) (l .i) (a .n) (l .rest) (omega arith) (l .inv .1))
-
-same-length : tie.Need-same-length Inv-loop μ-loop
-same-length c = search needs
 
 returns : tie.Need-returns Inv-loop μ-loop
 returns c =
@@ -84,11 +66,11 @@ put-little-spec =
     Inv-loop
     μ-loop
     loop-holds
-    cast-block
-    add-block
-    slice-write-block
-    add-i
-    loop-less
+    (λ c. search needs)
+    (λ c. search needs)
+    (λ c. search needs)
+    (λ c. search needs)
+    (λ c. search needs)
     loop-again
-    same-length
+    (λ c. search needs)
     returns)

@@ -43,18 +43,12 @@ room c =
 put-figures-requires : tie.Need-put-figures-requires
 put-figures-requires c κs = omega (arith, figures-short (c .before), start (c .before) .pre)
 
-slice-aggregate-put-list-line : tie.Need-slice-aggregate-put-list-line
-slice-aggregate-put-list-line c = search needs
-
 put-list-line-requires : tie.Need-put-list-line-requires
 unfolding textOf
 put-list-line-requires c κs =
     let f = figured c in let k = f .before .before in let a = start k .args in
     second-room (figures (a .a)) (keyLine runinKey (joined (a .runin .now))) (keyLine loopKey (joined (a .cycle .now))) (room k)
     (f .put-figures .ensures)
-
-slice-aggregate-put-list-line-2 : tie.Need-slice-aggregate-put-list-line-2
-slice-aggregate-put-list-line-2 c = search needs
 
 put-list-line-requires-2 : tie.Need-put-list-line-requires-2
 unfolding textOf
@@ -63,9 +57,6 @@ put-list-line-requires-2 c κs =
     third-room (figures (a .a)) (keyLine runinKey (joined (a .runin .now))) (keyLine loopKey (joined (a .cycle .now))) (room k)
     (f .put-figures .ensures)
     (l .put-list-line .ensures)
-
-same-length : tie.Need-same-length
-same-length c = search needs
 
 returns : tie.Need-returns
 unfolding textOf
@@ -83,9 +74,9 @@ write-text-spec =
     tie.close
     (tie.spec
     put-figures-requires
-    slice-aggregate-put-list-line
+    (λ c. search needs)
     put-list-line-requires
-    slice-aggregate-put-list-line-2
+    (λ c. search needs)
     put-list-line-requires-2
-    same-length
+    (λ c. search needs)
     returns)

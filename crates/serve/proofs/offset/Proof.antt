@@ -11,11 +11,8 @@ returns c = offset-stem _ _ _ (omega arith)
 returns-2 : tie.Need-returns-2
 returns-2 c = offset-none _ _ _ (omega arith) (omega arith)
 
-rem-result : tie.Need-rem-result
-rem-result c = search needs
-
 returns-3 : tie.Need-returns-3
 returns-3 c = offset-cycle _ _ _ (omega arith) (omega arith)
 
 pub offset-spec : {M : Type 1} → statement M
-offset-spec = tie.close (tie.spec returns returns-2 rem-result returns-3)
+offset-spec = tie.close (tie.spec returns returns-2 (λ c. search needs) returns-3)

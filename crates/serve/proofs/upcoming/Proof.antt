@@ -5,17 +5,11 @@ use Rattle.serve.proofs.Laws.{in-stem, in-cycle, serves-stem, serves-cy
 use Rattle.serve.proofs.upcoming.Statement.{statement}
 use Rattle.serve.proofs.upcoming.Tie as tie
 
-offset-requires : tie.Need-offset-requires
-offset-requires c κs = search needs
-
 sub-result : tie.Need-sub-result
 sub-result c = in-stem (c .before .offset .ensures) (c .if1 .taken)
 
 part-result-start : tie.Need-part-result-start
 part-result-start c = in-stem (c .before .offset .ensures) (c .if1 .taken)
-
-part-result-end : tie.Need-part-result-end
-part-result-end c = search needs
 
 returns : tie.Need-returns
 returns c = serves-stem _ _ _ _ (c .before .before .offset .ensures) (c .before .if1 .taken)
@@ -26,9 +20,6 @@ sub-result-2 c = in-cycle (c .before .offset .ensures) (c .if1 .left)
 part-result-start-2 : tie.Need-part-result-start-2
 part-result-start-2 c = in-cycle (c .before .offset .ensures) (c .if1 .left)
 
-part-result-end-2 : tie.Need-part-result-end-2
-part-result-end-2 c = search needs
-
 returns-2 : tie.Need-returns-2
 returns-2 c = serves-cycle _ _ _ _ (c .before .before .offset .ensures) (c .before .if1 .left)
 
@@ -36,12 +27,12 @@ pub upcoming-spec : {M : Type 1} → statement M
 upcoming-spec =
     tie.close
     (tie.spec
-    offset-requires
+    (λ c κs. search needs)
     sub-result
     part-result-start
-    part-result-end
+    (λ c. search needs)
     returns
     sub-result-2
     part-result-start-2
-    part-result-end-2
+    (λ c. search needs)
     returns-2)
