@@ -8,15 +8,14 @@ use mathlib.Core.Logic.{_≢_}
 use Prim.Native.Nat.{ℕ, _≤_}
 use native.Mathlib.Omega.{arith}
 use lib.ListN.{length, take, drop, length-append}
-use Rattle.reader.specs.Reading.{readPlan}
 use Rattle.answer.specs.Text.{textOf}
 use Rattle.answer.specs.declared.Answer.{Answer}
-use Rattle.planner.specs.Promise.{verdict, Told}
+use Rattle.planner.specs.Promise.{AnswerTo}
 use Rattle.planner.proofs.Bounds.{never-short}
 use Rattle.console.specs.Printed.{Printed}
 
 module _ (plan runin loop runin′ loop′ out out′ : List ℕ) (n : ℕ) where
-  pub text-printed : (a : Answer) → Told (verdict (readPlan plan .outcome) (readPlan plan .plan) (length runin) (length loop)) runin loop runin′ loop′ a
+  pub text-printed : (a : Answer) → AnswerTo plan runin loop runin′ loop′ a
       → n ≡ length (textOf a (take (a .stem) runin′) (take (a .cycle) loop′))
       → out′ ≡ textOf a (take (a .stem) runin′) (take (a .cycle) loop′) ++ drop n out → Printed plan runin loop runin′ loop′ out out′ n
   text-printed a told long text = record { answer = a; told = told; text = text; long = long }

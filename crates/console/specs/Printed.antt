@@ -6,13 +6,12 @@ use mathlib.Core.Path.{_≡_}
 use mathlib.Core.List.{List, _++_}
 use Prim.Native.Nat.{ℕ}
 use lib.ListN.{length, take, drop}
-use Rattle.reader.specs.Reading.{readPlan}
 use Rattle.answer.specs.Text.{textOf}
 use Rattle.answer.specs.declared.Answer.{Answer}
-use Rattle.planner.specs.Promise.{verdict, Told}
+use Rattle.planner.specs.Promise.{AnswerTo}
 
 pub record Printed (plan runin loop runin′ loop′ out out′ : List ℕ) (n : ℕ) : Type 0 where
   pub answer : Answer
-  pub told : Told (verdict (readPlan plan .outcome) (readPlan plan .plan) (length runin) (length loop)) runin loop runin′ loop′ answer
+  pub told : AnswerTo plan runin loop runin′ loop′ answer
   pub text : out′ ≡ textOf answer (take (answer .stem) runin′) (take (answer .cycle) loop′) ++ drop n out
   pub long : n ≡ length (textOf answer (take (answer .stem) runin′) (take (answer .cycle) loop′))

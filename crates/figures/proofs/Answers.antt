@@ -23,7 +23,7 @@ use Rattle.reader.specs.Reading.{readPlan}
 use Rattle.reader.specs.declared.Outcome.the-variants as outcome
 use Rattle.reader.proofs.WellRead.{read-well}
 use Rattle.answer.specs.declared.Answer.{Answer}
-use Rattle.planner.specs.Promise.{verdict, NoTour, Planned, none, tour as found, Refused, Told}
+use Rattle.planner.specs.Promise.{verdict, NoTour, Planned, none, tour as found, Refused, Told, AnswerTo}
 use Rattle.planner.proofs.Unique.{best-unique}
 use Rattle.moxiltra.specs.Entries.{Buffers}
 use Rattle.moxiltra.proofs.Blocks.{answered, block-exact}
@@ -72,8 +72,7 @@ lacking-roomy (exactly r l) p b h f = rw (f .0, f .1) (not-true (roomy p r l) h)
 
 -- an answer that tells the numbers wherever it is told is what the call returns and what its block says
 heard : (text : List ℕ) (room : Room) (x : Numbers)
-    → ((b b′ : Buffers) (a : Answer) → Fits room b
-    → Told (verdict (readPlan text .outcome) (readPlan text .plan) (length (b .runin)) (length (b .loop))) (b .runin) (b .loop) (b′ .runin) (b′ .loop) a → Tells x a)
+    → ((b b′ : Buffers) (a : Answer) → Fits room b → AnswerTo text (b .runin) (b .loop) (b′ .runin) (b′ .loop) a → Tells x a)
     → Answers text room x
 heard text room x tells b b′ r h f P =
     let A = answered text b b′ r h P in

@@ -10,11 +10,10 @@ use lib.ListN.{length, take, drop}
 use lib.Seq.{take-at}
 use Rattle.plan.specs.Refusal.{number}
 use Rattle.plan.specs.declared.Refusal.the-variants as refusal
-use Rattle.reader.specs.Reading.{readPlan}
 use Rattle.answer.specs.Block.{blockOf, answerOf}
 use Rattle.answer.specs.declared.Answer.{Answer}
 use Rattle.answer.proofs.Blocks.{length-block, answer-block}
-use Rattle.planner.specs.Promise.{verdict, Told}
+use Rattle.planner.specs.Promise.{AnswerTo}
 use Rattle.planner.proofs.Bounds.{told-narrow}
 use Rattle.moxiltra.specs.Entries.{Buffers, buffers, Answered, Promise}
 
@@ -23,8 +22,7 @@ unfolding Promise
 block-short plan b h r e = rw (lt-ltb (length (b .block)) 16 h) (record { answer = e; untouched = refl })
 
 pub block-told : (plan block runin loop block′ runin′ loop′ : List ℕ) (a : Answer) → 16 ≤ length block
-    → Told (verdict (readPlan plan .outcome) (readPlan plan .plan) (length runin) (length loop)) runin loop runin′ loop′ a
-    → block′ ≡ blockOf a ++ drop 16 block → Promise plan (buffers block runin loop) (buffers block′ runin′ loop′) (a .number)
+    → AnswerTo plan runin loop runin′ loop′ a → block′ ≡ blockOf a ++ drop 16 block → Promise plan (buffers block runin loop) (buffers block′ runin′ loop′) (a .number)
 unfolding Promise
 block-told plan block runin loop block′ runin′ loop′ a h t w = rw (le-ltb (length block) 16 h) (record { answer = a; told = t; block = w; returned = refl })
 

@@ -12,10 +12,9 @@ use lib.Dec.{ltb}
 use lib.ListN.{length, drop}
 use Rattle.plan.specs.Refusal.{number}
 use Rattle.plan.specs.declared.Refusal.the-variants as refusal
-use Rattle.reader.specs.Reading.{readPlan}
 use Rattle.answer.specs.Block.{blockOf}
 use Rattle.answer.specs.declared.Answer.{Answer}
-use Rattle.planner.specs.Promise.{verdict, Told}
+use Rattle.planner.specs.Promise.{AnswerTo}
 
 pub record Buffers : Type 0 where
   pub block : List ℕ
@@ -31,7 +30,7 @@ pub record TooShort (b b′ : Buffers) (r : ℕ) : Type 0 where
 
 pub record Answered (plan : List ℕ) (b b′ : Buffers) (r : ℕ) : Type 0 where
   pub answer : Answer
-  pub told : Told (verdict (readPlan plan .outcome) (readPlan plan .plan) (length (b .runin)) (length (b .loop))) (b .runin) (b .loop) (b′ .runin) (b′ .loop) answer
+  pub told : AnswerTo plan (b .runin) (b .loop) (b′ .runin) (b′ .loop) answer
   pub block : b′ .block ≡ blockOf answer ++ drop 16 (b .block)
   pub returned : r ≡ answer .number
 

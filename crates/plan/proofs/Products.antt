@@ -1,6 +1,6 @@
 -- A product held at a bound M after every factor is the exact product held at M: once at M, the product stays at M or falls to 0
 -- with a factor 0, as the exact one does.
-use mathlib.Core.Path.{_≡_, refl, _∙_}
+use mathlib.Core.Path.{_≡_, refl, sym, _∙_}
 use mathlib.Core.Bool.{Bool, true, false}
 use mathlib.Core.List.{List, [], _∷_}
 use Prim.Native.Nat.{ℕ, zero, suc, _+_, _*_, _≤_, _<_, min}
@@ -9,10 +9,10 @@ use native.Mathlib.Numerals.{add-one}
 use native.Mathlib.Nat.{mul-assoc, mul-le-mul-left, mul-le-mul-right}
 use lib.ListN.{getD}
 use lib.Dec.{ltb}
-use borrow.Author.Tests.{ltb-true, ltb-false}
+use borrow.Author.Tests.{ltb-true, ltb-false, lt-ltb, le-ltb}
 use Rattle.base.specs.Below.{productBelow}
 use Rattle.automata.specs.declared.Automaton.{Automaton}
-use Rattle.plan.specs.Size.{size}
+use Rattle.plan.specs.Size.{size, Sized}
 use Rattle.plan.specs.WellFormed.{soft}
 use Rattle.plan.specs.declared.Plan.{Plan}
 
@@ -46,6 +46,20 @@ module _ (M : ℕ) where
       let e : min (1 * p .places) M ≡ min (p .places) M = omega arith in
       let k : n₀ ≡ min (p .places * p .hard .states) M = h₀ ∙ rw (ha, e) (held-mul (p .places) (p .hard .states)) in
       h ∙ rw k (held-mul (p .places * p .hard .states) (productBelow (p .rules) (λ i. soft p i .states + 1)))
+
+pub held-sized : (p : Plan) (n : ℕ) → n ≡ min (size p) 2049 → Sized p (ltb 2048 n) n
+held-sized p n e = by (ltb 2048 n) refl
+  where
+    by : (b : Bool) → ltb 2048 n ≡ b → Sized p b n
+    by true h = record { judged = sym (lt-ltb 2048 (size p) (omega (arith, ltb-true 2048 n h))); nodes = λ small. omega arith }
+    by false h = record { judged = sym (le-ltb 2048 (size p) (omega (arith, ltb-false 2048 n h))); nodes = λ small. omega arith }
+
+module _ {p : Plan} {large : Bool} {n : ℕ} (S : Sized p large n) (fits : large ≡ false) where
+  pub sized-small : size p ≤ 2048
+  sized-small = ltb-false 2048 (size p) (sym (S .judged) ∙ fits)
+
+  pub sized-nodes : n ≡ size p
+  sized-nodes = S .nodes sized-small
 
 pub product-fits : (n factor : ℕ) → n ≤ 2049 → factor ≤ 4294967296 → n * factor < 18446744073709551616
 product-fits n factor h k = omega (arith, mul-le-mul-left n k, mul-le-mul-right 4294967296 h)

@@ -1,9 +1,9 @@
-//! The size of the product that a plan is searched in, exact up to 2,048.
+//! The size of the product that a plan is searched in, and the bound on it: 2,048.
 use crate::Plan;
 use text::read::wide;
 ghost use mathlib.Core.Path.{_≡_};
 ghost use Prim.Native.Nat.{_*_, _≤_, min};
-ghost use Rattle.plan.specs.Size.{size};
+ghost use Rattle.plan.specs.Size.{size, Sized};
 
 // n times a factor, held at 2,049.
 fn grown(n: u32, factor: u64) -> u32
@@ -18,7 +18,7 @@ fn grown(n: u32, factor: u64) -> u32
 }
 
 // The size of the product, held at 2,049.
-pub fn held_size(plan: Plan) -> usize
+fn held_size(plan: Plan) -> usize
     requires { ⌜ plan .rules ≤ 8 ⌝ }
     ensures { λ r. ⌜ r ≡ min (size plan) 2049 ⌝ }
 {
@@ -33,4 +33,19 @@ pub fn held_size(plan: Plan) -> usize
         i += 1;
     }
     n as usize
+}
+
+// Whether the product is too large to be planned in; if not, how many nodes it has.
+pub struct Extent {
+    pub large: bool,
+    pub nodes: usize,
+}
+
+pub fn size_of(plan: Plan) -> Extent
+    requires { ⌜ plan .rules ≤ 8 ⌝ }
+    ensures { λ r. ⌜ Sized plan (r .large) (r .nodes) ⌝ }
+{
+    let nodes = held_size(plan);
+    let large = 2048 < nodes;
+    Extent { large, nodes }
 }

@@ -8,11 +8,10 @@ use mathlib.Core.Logic.{_≢_}
 use Prim.Native.Nat.{ℕ, _≤_}
 use native.Mathlib.Omega.{arith}
 use lib.ListN.{length}
-use lib.Dec.{ltb}
 use borrow.Author.Tests.{ltb-false}
 use lib.Pow.{pow-mono}
 use Rattle.plan.specs.WellFormed.{WellFormed}
-use Rattle.plan.specs.Size.{size, roomy}
+use Rattle.plan.specs.Size.{size, tooLarge, roomy}
 use Rattle.plan.specs.Cost.{Counted, none as no-more, one, skip}
 use Rattle.plan.specs.Refusal as refused
 use Rattle.plan.specs.declared.Plan.{Plan}
@@ -27,7 +26,7 @@ use Rattle.reader.proofs.Answers.{read-low}
 use Rattle.reader.proofs.WellRead.{read-well}
 use Rattle.answer.specs.Block.{Narrow}
 use Rattle.answer.specs.declared.Answer.{Answer}
-use Rattle.planner.specs.Promise.{verdict, refuse, go, refusalAnswer, TourOf, Planned, none, tour, Told}
+use Rattle.planner.specs.Promise.{verdict, refuse, go, refusalAnswer, TourOf, Planned, none, tour, Told, ToldOf, AnswerTo}
 use Rattle.planner.proofs.Steps.{cost-small}
 
 counted-le : {P : ℕ → Type 0} {n c : ℕ} → Counted P n c → c ≤ n
@@ -59,41 +58,36 @@ module _ (p : Plan) {runin loop runin′ loop′ : List ℕ} {a : Answer} where
   planned-number (tour t) f = omega (arith, ap (λ x. x .number) (t .answer))
 
 -- a plan file that was turned away, and one that was read, in the verdict's terms
-module _ (runin loop runin′ loop′ : List ℕ) (a : Answer) (r l : ℕ) where
-  Says : Outcome → Plan → Type 0
-  Says o p = Told (verdict o p r l) runin loop runin′ loop′ a
-
-  verdict-narrow : (o : Outcome) (p : Plan) → number o ≤ 3 → lineOf o ≤ 60001 → (o ≡ outcome.Plan → WellFormed p) → Says o p → Narrow a
-  unfolding Says verdict Told
+module _ (runin loop runin′ loop′ : List ℕ) (a : Answer) where
+  verdict-narrow : (o : Outcome) (p : Plan) → number o ≤ 3 → lineOf o ≤ 60001 → (o ≡ outcome.Plan → WellFormed p)
+      → ToldOf o p runin loop runin′ loop′ a → Narrow a
+  unfolding verdict Told
   verdict-narrow (outcome.Refused x) p low early ok t = refusal-narrow x a (t .answer) (omega arith) early
-  verdict-narrow outcome.Plan p low early ok t = by (ltb 2048 (size p)) (roomy p r l) refl t
+  verdict-narrow outcome.Plan p low early ok t = by (tooLarge p) (roomy p (length runin) (length loop)) refl t
     where
-      by : (large room : Bool) → ltb 2048 (size p) ≡ large
+      by : (large room : Bool) → tooLarge p ≡ large
           → Told (cond large (refuse refusal.ProductTooLarge) (cond room (go p) (refuse refusal.BufferTooShort))) runin loop runin′ loop′ a → Narrow a
       by true room e t = refusal-narrow refusal.ProductTooLarge a (t .answer) (omega arith) (omega arith)
       by false true e t = planned-narrow p (ok refl) (ltb-false 2048 (size p) e) t
       by false false e t = refusal-narrow refusal.BufferTooShort a (t .answer) (omega arith) (omega arith)
 
-  verdict-number : (o : Outcome) (p : Plan) → number o ≤ 3 → (o ≡ outcome.Plan → size p ≤ 2048 → roomy p r l ≡ true) → Says o p → a .number ≢ 5
-  unfolding Says verdict Told
+  verdict-number : (o : Outcome) (p : Plan) → number o ≤ 3 → (o ≡ outcome.Plan → size p ≤ 2048 → roomy p (length runin) (length loop) ≡ true)
+      → ToldOf o p runin loop runin′ loop′ a → a .number ≢ 5
+  unfolding verdict Told
   verdict-number (outcome.Refused x) p low room t f = omega (arith, ap (λ y. y .number) (t .answer))
-  verdict-number outcome.Plan p low room t f = by (ltb 2048 (size p)) refl t
+  verdict-number outcome.Plan p low room t f = by (tooLarge p) refl t
     where
-      by : (large : Bool) → ltb 2048 (size p) ≡ large
-          → Told (cond large (refuse refusal.ProductTooLarge) (cond (roomy p r l) (go p) (refuse refusal.BufferTooShort))) runin loop runin′ loop′ a → ⊥
+      by : (large : Bool) → tooLarge p ≡ large → Told (cond large (refuse refusal.ProductTooLarge)
+          (cond (roomy p (length runin) (length loop)) (go p) (refuse refusal.BufferTooShort))) runin loop runin′ loop′ a → ⊥
       by true e t = omega (arith, ap (λ y. y .number) (t .answer))
       by false e t = planned-number p (rw (room refl (ltb-false 2048 (size p) e)) at t) f
 
-module _ (plan runin loop runin′ loop′ : List ℕ) (a : Answer)
-    (t : Told (verdict (readPlan plan .outcome) (readPlan plan .plan) (length runin) (length loop)) runin loop runin′ loop′ a) where
+module _ (plan runin loop runin′ loop′ : List ℕ) (a : Answer) (t : AnswerTo plan runin loop runin′ loop′ a) where
   pub told-narrow : Narrow a
-  unfolding Says
   told-narrow =
-      verdict-narrow runin loop runin′ loop′ a (length runin) (length loop) (readPlan plan .outcome) (readPlan plan .plan)
-      (read-low plan .0) (read-low plan .1) (read-well plan) t
+      verdict-narrow runin loop runin′ loop′ a (readPlan plan .outcome) (readPlan plan .plan) (read-low plan .0) (read-low plan .1) (read-well plan) t
 
   pub never-short : length runin ≡ 2048 → length loop ≡ 20480 → a .number ≢ 5
-  unfolding Says
   never-short r l =
-      verdict-number runin loop runin′ loop′ a (length runin) (length loop) (readPlan plan .outcome) (readPlan plan .plan) (read-low plan .0)
+      verdict-number runin loop runin′ loop′ a (readPlan plan .outcome) (readPlan plan .plan) (read-low plan .0)
       (λ e small. rw (r, l) (roomy-enough (readPlan plan .plan) (read-well plan e) small)) t

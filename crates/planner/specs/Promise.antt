@@ -11,20 +11,23 @@
 --   Planned p runin loop runin′ loop′ a == there is no tour, and no byte has changed; or there is one
 --   Refused x runin loop runin′ loop′ a == refusal x is answered, and no byte has changed
 --   Told v runin loop runin′ loop′ a    == one of the two, as the verdict says
+--   ToldOf o p runin loop runin′ loop′ a == so by the verdict on outcome o, plan p and these buffers
+--   AnswerTo file runin loop runin′ loop′ a
+--                        == a is the answer to a plan file: what is told of what it reads as
 use mathlib.Core.Path.{_≡_}
 use mathlib.Core.Bool.{cond}
 use mathlib.Core.List.{List, _++_}
 use Prim.Native.Nat.{ℕ, _≤_}
 use lib.Count.{ones}
 use lib.ListN.{length, drop}
-use lib.Dec.{ltb}
 use Rattle.plan.specs.Refusal.{number, lineOf}
-use Rattle.plan.specs.Size.{size, loopRoom, roomy}
+use Rattle.plan.specs.Size.{size, tooLarge, loopRoom, roomy}
 use Rattle.plan.specs.Tour.{IsLasso, Hard, Soft}
 use Rattle.plan.specs.Cost.{KeptIs, cost, Best, Counted}
 use Rattle.plan.specs.declared.Plan.{Plan}
 use Rattle.plan.specs.declared.Refusal.{Refusal}
 use Rattle.plan.specs.declared.Refusal.the-variants as refusal
+use Rattle.reader.specs.Reading.{readPlan}
 use Rattle.reader.specs.declared.Outcome.{Outcome}
 use Rattle.reader.specs.declared.Outcome.the-variants as outcome
 use Rattle.answer.specs.declared.Answer.{Answer}
@@ -35,7 +38,7 @@ pub data Verdict : Type 0 where
 
 unfoldable pub verdict : Outcome → Plan → ℕ → ℕ → Verdict
 verdict (outcome.Refused x) p r l = refuse x
-verdict outcome.Plan p r l = cond (ltb 2048 (size p)) (refuse refusal.ProductTooLarge) (cond (roomy p r l) (go p) (refuse refusal.BufferTooShort))
+verdict outcome.Plan p r l = cond (tooLarge p) (refuse refusal.ProductTooLarge) (cond (roomy p r l) (go p) (refuse refusal.BufferTooShort))
 
 abbrev pub refusalAnswer : Refusal → Answer
 refusalAnswer x = record { number = number x; line = lineOf x; cost = 0; kept = 0; count = 0; stem = 0; cycle = 0 }
@@ -73,3 +76,9 @@ pub record Refused (x : Refusal) (runin loop runin′ loop′ : List ℕ) (a : A
 unfoldable pub Told : Verdict → List ℕ → List ℕ → List ℕ → List ℕ → Answer → Type 0
 Told (refuse x) runin loop runin′ loop′ a = Refused x runin loop runin′ loop′ a
 Told (go p) runin loop runin′ loop′ a = Planned p runin loop runin′ loop′ a
+
+abbrev pub ToldOf : Outcome → Plan → List ℕ → List ℕ → List ℕ → List ℕ → Answer → Type 0
+ToldOf o p runin loop runin′ loop′ a = Told (verdict o p (length runin) (length loop)) runin loop runin′ loop′ a
+
+abbrev pub AnswerTo : List ℕ → List ℕ → List ℕ → List ℕ → List ℕ → Answer → Type 0
+AnswerTo file runin loop runin′ loop′ a = ToldOf (readPlan file .outcome) (readPlan file .plan) runin loop runin′ loop′ a

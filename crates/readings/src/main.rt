@@ -3,7 +3,7 @@
 use libc::STDOUT_FILENO;
 use plan::Plan;
 use plan::Refusal;
-use plan::size::held_size;
+use plan::size::size_of;
 use reader::Outcome;
 ghost use Prim.Native.Nat.{_≤_};
 
@@ -21,7 +21,8 @@ fn print_outcome(outcome: Outcome) {
 fn print_plan(p: Plan)
     requires { ⌜ p .rules ≤ 8 ⌝ }
 {
-    if 2048 < held_size(p) {
+    let size = size_of(p);
+    if size.large {
         print_outcome(Outcome::Refused(Refusal::ProductTooLarge));
     } else {
         print_outcome(Outcome::Plan);

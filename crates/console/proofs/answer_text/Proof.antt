@@ -16,15 +16,6 @@ answered c = c .before .before .before .before .before .before
 abbrev start : tie.After-file-answer → tie.Start
 start c = c .before .before .before .before .before .before .before
 
-file-answer-requires : tie.Need-file-answer-requires
-file-answer-requires c κs = search needs
-
-cast-stem : tie.Need-cast-stem
-cast-stem c = search needs
-
-cast-turn : tie.Need-cast-turn
-cast-turn c = search needs
-
 slice-reshare-prefix-write-text : tie.Need-slice-reshare-prefix-write-text
 slice-reshare-prefix-write-text c = let f = told-fits _ _ _ _ _ _ (answered c .file-answer .ensures) in omega (arith, f .0, f .1)
 
@@ -42,15 +33,6 @@ write-text-requires c κs =
     let told = answered (c .before .before .before) in
     simp length-take (omega (arith, told .file-answer .kept, start told .pre))
 
-same-length : tie.Need-same-length
-same-length c = search needs
-
-same-length-2 : tie.Need-same-length-2
-same-length-2 c = search needs
-
-same-length-3 : tie.Need-same-length-3
-same-length-3 c = search needs
-
 returns : tie.Need-returns
 returns c =
     let told = answered (c .before .before .before .before .before .before) in
@@ -60,15 +42,15 @@ pub answer-text-spec : {M : Type 1} → statement M
 answer-text-spec =
     tie.close
     (tie.spec
-    file-answer-requires
-    cast-stem
-    cast-turn
+    (λ c κs. search needs)
+    (λ c. search needs)
+    (λ c. search needs)
     slice-reshare-prefix-write-text
     slice-aggregate-write-text
     slice-reshare-prefix-write-text-2
     slice-aggregate-write-text-2
     write-text-requires
-    same-length
-    same-length-2
-    same-length-3
+    (λ c. search needs)
+    (λ c. search needs)
+    (λ c. search needs)
     returns)

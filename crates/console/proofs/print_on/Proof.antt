@@ -8,39 +8,21 @@ use Rattle.console.proofs.print_on.Tie as tie
 abbrev answered : tie.After-slice-known6 → tie.After-answer-text
 answered c = c .before .before .before .before .before .before
 
-answer-text-requires : tie.Need-answer-text-requires
-answer-text-requires c κs = search needs
-
 slice-reshare-prefix-write-all : tie.Need-slice-reshare-prefix-write-all
 slice-reshare-prefix-write-all c = printed-le _ _ _ _ _ _ _ _ (answered c .answer-text .ensures)
 
 slice-aggregate-write-all : tie.Need-slice-aggregate-write-all
 slice-aggregate-write-all c = front _ _ (printed-le _ _ _ _ _ _ _ _ (answered (c .before) .answer-text .ensures))
 
-write-all-requires : tie.Need-write-all-requires
-write-all-requires c κs = search needs
-
-same-length : tie.Need-same-length
-same-length c = search needs
-
-same-length-2 : tie.Need-same-length-2
-same-length-2 c = search needs
-
-same-length-3 : tie.Need-same-length-3
-same-length-3 c = search needs
-
-returns : tie.Need-returns
-returns c = search needs
-
 pub print-on-spec : {M : Type 1} → statement M
 print-on-spec =
     tie.close
     (tie.spec
-    answer-text-requires
+    (λ c κs. search needs)
     slice-reshare-prefix-write-all
     slice-aggregate-write-all
-    write-all-requires
-    same-length
-    same-length-2
-    same-length-3
-    returns)
+    (λ c κs. search needs)
+    (λ c. search needs)
+    (λ c. search needs)
+    (λ c. search needs)
+    (λ c. search needs))

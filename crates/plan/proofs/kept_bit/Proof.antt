@@ -7,11 +7,8 @@ use borrow.Author.Needs.{needs}
 use Rattle.plan.proofs.kept_bit.Statement.{statement}
 use Rattle.plan.proofs.kept_bit.Tie as tie
 
-shr-result : tie.Need-shr-result
-shr-result c = search needs
-
 returns : tie.Need-returns
 returns c = let e = and-mask _ 1 ∙ sym (bit-shift (c .args .kept) (c .args .i)) in (e, omega (arith, e, bit-lt (c .args .kept) (c .args .i)))
 
 pub kept-bit-spec : {M : Type 1} → statement M
-kept-bit-spec = tie.close (tie.spec shr-result returns)
+kept-bit-spec = tie.close (tie.spec (λ c. search needs) returns)

@@ -15,23 +15,11 @@ abbrev μ-loop : tie.MeasureT-loop
 loop-holds : tie.Need-loop-holds Inv-loop μ-loop
 loop-holds c = tying-start (c .args .rules) (c .args .kept) (c .pre)
 
-mul-tie : tie.Need-mul-tie Inv-loop μ-loop
-mul-tie c = search needs
-
-left-out-requires : tie.Need-left-out-requires Inv-loop μ-loop
-left-out-requires c κs = search needs
-
-add-tie : tie.Need-add-tie Inv-loop μ-loop
-add-tie c = search needs
-
-add-i : tie.Need-add-i Inv-loop μ-loop
-add-i c = search needs
-
-loop-less : tie.Need-loop-less Inv-loop μ-loop
-loop-less c = search needs
-
 loop-again : tie.Need-loop-again Inv-loop μ-loop
-loop-again c = let a = c .before .before .before .args in let l = c .before .before .loop in tying-step (a .rules) (a .kept) (l .tie) (l .i) (c .left-out .result) (l .inv) (omega arith) (c .left-out .ensures .0)
+loop-again c =
+    let a = c .before .before .before .args in
+    let l = c .before .before .loop in
+    tying-step (a .rules) (a .kept) (l .tie) (l .i) (c .left-out .result) (l .inv) (omega arith) (c .left-out .ensures .0)
 
 returns : tie.Need-returns Inv-loop μ-loop
 returns c = let a = c .before .before .args in let l = c .before .loop in tying-end (a .rules) (a .kept) (l .tie) (l .i) (l .inv) (omega arith)
@@ -43,10 +31,10 @@ tie-of-spec =
     Inv-loop
     μ-loop
     loop-holds
-    mul-tie
-    left-out-requires
-    add-tie
-    add-i
-    loop-less
+    (λ c. search needs)
+    (λ c κs. search needs)
+    (λ c. search needs)
+    (λ c. search needs)
+    (λ c. search needs)
     loop-again
     returns)

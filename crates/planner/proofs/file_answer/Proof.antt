@@ -7,43 +7,46 @@ use borrow.Author.Needs.{needs}
 use Rattle.planner.proofs.file_answer.Statement.{statement}
 use Rattle.planner.proofs.file_answer.Tie as tie
 
-read-plan-requires : tie.Need-read-plan-requires
-read-plan-requires c κs = search needs
+-- the places that the answers refer to: where the function starts, and the reading, from where it is known to be a plan or a refusal
+abbrev start : tie.After-read-plan → tie.Start
+start c = c .before .before .before .before
 
-enum-told : tie.Need-enum-told
-enum-told c = search needs
+abbrev plan-read : tie.After-enum-told → tie.After-read-plan
+plan-read c = c .before .before .before
+
+abbrev refusal-read : tie.After-outcome → tie.After-read-plan
+refusal-read c = c .before .before .before
 
 plan-answer-requires : tie.Need-plan-answer-requires
-plan-answer-requires c κs = read-ok (c .before .before .before .before .before .before .before .before .before .args .plan .now) _ (c .before .before .before .before .before .read-plan .ensures) (c .before .before .enum-told .given .1)
-
-enum-known-outcome : tie.Need-enum-known-outcome
-enum-known-outcome c = search needs
+plan-answer-requires c κs =
+    let p = c .before .before in let r = plan-read p in
+    read-ok (start r .args .plan .now) _ (r .read-plan .ensures) (p .enum-told .given .1)
 
 refusal-answer-requires : tie.Need-refusal-answer-requires
-refusal-answer-requires c κs = omega (arith, refused-early (c .before .before .before .before .before .before .before .before .args .plan .now) _ (c .before .before .before .before .read-plan .ensures) _ (c .before .outcome .given .1))
-
-same-length : tie.Need-same-length
-same-length c = search needs
-
-same-length-2 : tie.Need-same-length-2
-same-length-2 c = search needs
+refusal-answer-requires c κs =
+    let x = c .before in let r = refusal-read x in
+    omega (arith, refused-early (start r .args .plan .now) _ (r .read-plan .ensures) _ (x .outcome .given .1))
 
 returns : tie.Need-returns
-returns c = let a = c .before .before .before .before .before .before .before .before .before .before .before .before .before .before .args in read-told (a .plan .now) _ (c .before .before .before .before .before .before .before .before .before .before .read-plan .ensures) (a .runin .now) (a .cycle .now) _ _ _ (c .before .before .before .before .before .before .before .enum-told .given .1) (c .before .before .before .before .plan-answer .ensures)
+returns c =
+    let told = c .before .before .before .before in let p = told .before .before .before in let r = plan-read p in let a = start r .args in
+    read-told (a .plan .now) _ (r .read-plan .ensures) (a .runin .now) (a .cycle .now) _ _ _ (p .enum-told .given .1) (told .plan-answer .ensures)
 
 returns-2 : tie.Need-returns-2
-returns-2 c = let a = c .before .before .before .before .before .before .before .before .before .args in refused-told (a .plan .now) _ (c .before .before .before .before .before .read-plan .ensures) (a .runin .now) (a .cycle .now) _ _ (c .before .before .outcome .given .1) (c .refusal-answer .ensures)
+returns-2 c =
+    let x = c .before .before in let r = refusal-read x in let a = start r .args in
+    refused-told (a .plan .now) _ (r .read-plan .ensures) (a .runin .now) (a .cycle .now) _ _ (x .outcome .given .1) (c .refusal-answer .ensures)
 
 pub file-answer-spec : {M : Type 1} → statement M
 file-answer-spec =
     tie.close
     (tie.spec
-    read-plan-requires
-    enum-told
+    (λ c κs. search needs)
+    (λ c. search needs)
     plan-answer-requires
-    enum-known-outcome
+    (λ c. search needs)
     refusal-answer-requires
-    same-length
-    same-length-2
+    (λ c. search needs)
+    (λ c. search needs)
     returns
     returns-2)

@@ -29,15 +29,6 @@ plan-in-tables-requires c κs =
       p .5,
     )
 
-same-length : tie.Need-same-length
-same-length c = search needs
-
-same-length-2 : tie.Need-same-length-2
-same-length-2 c = search needs
-
-returns : tie.Need-returns
-returns c = search needs
-
 pub plan-in-arrays-spec : {M : Type 1} → statement M
 plan-in-arrays-spec =
-    tie.close (tie.spec plan-in-tables-requires same-length same-length-2 returns)
+    tie.close (tie.spec plan-in-tables-requires (λ c. search needs) (λ c. search needs) (λ c. search needs))

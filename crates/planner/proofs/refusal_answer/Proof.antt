@@ -9,17 +9,8 @@ use Rattle.planner.proofs.refusal_answer.Tie as tie
 abbrev told : ℕ → ℕ → Answer
 told number line = record { number = number; line = line; cost = 0; kept = 0; count = 0; stem = 0; cycle = 0 }
 
-refusal-number-requires : tie.Need-refusal-number-requires
-refusal-number-requires c κs = search needs
-
-refusal-line-requires : tie.Need-refusal-line-requires
-refusal-line-requires c κs = search needs
-
-cast-t4 : tie.Need-cast-t4
-cast-t4 c = search needs
-
 returns : tie.Need-returns
 returns c = ap₂ told (c .before .refusal-number .ensures) (c .refusal-line .ensures)
 
 pub refusal-answer-spec : {M : Type 1} → statement M
-refusal-answer-spec = tie.close (tie.spec refusal-number-requires refusal-line-requires cast-t4 returns)
+refusal-answer-spec = tie.close (tie.spec (λ c κs. search needs) (λ c κs. search needs) (λ c. search needs) returns)

@@ -16,26 +16,8 @@ cost-answer k s l x = record { number = 0; line = 0; cost = x; kept = k; count =
 abbrev start : tie.After-cost-of → tie.Start
 start c = c .before .before .before .before
 
-cast-cost-of : tie.Need-cast-cost-of
-cast-cost-of c = search needs
-
-cost-of-requires : tie.Need-cost-of-requires
-cost-of-requires c κs = search needs
-
 cast-t10 : tie.Need-cast-t10
 cast-t10 c = let s = start c in omega (arith, c .cost-of .ensures .0, cost-small (s .args .p) (s .pre .0) (s .args .mask / 2))
-
-cast-t11 : tie.Need-cast-t11
-cast-t11 c = search needs
-
-cast-t12 : tie.Need-cast-t12
-cast-t12 c = search needs
-
-cast-t14 : tie.Need-cast-t14
-cast-t14 c = search needs
-
-cast-t15 : tie.Need-cast-t15
-cast-t15 c = search needs
 
 returns : tie.Need-returns
 returns c = let a = start c .args in ap (cost-answer (a .mask / 2) (a .stem) (a .cycle)) (c .cost-of .ensures .0)
@@ -43,4 +25,4 @@ returns c = let a = start c .args in ap (cost-answer (a .mask / 2) (a .stem) (a 
 pub tour-answer-spec : {M : Type 1} → statement M
 tour-answer-spec =
     tie.close
-    (tie.spec cast-cost-of cost-of-requires cast-t10 cast-t11 cast-t12 cast-t14 cast-t15 returns)
+    (tie.spec (λ c. search needs) (λ c κs. search needs) cast-t10 (λ c. search needs) (λ c. search needs) (λ c. search needs) (λ c. search needs) returns)

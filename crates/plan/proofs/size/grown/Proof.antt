@@ -7,14 +7,8 @@ use borrow.Author.Needs.{needs}
 use Rattle.plan.proofs.size.grown.Statement.{statement}
 use Rattle.plan.proofs.size.grown.Tie as tie
 
-wide-requires : tie.Need-wide-requires
-wide-requires c κs = search needs
-
 mul-w : tie.Need-mul-w
 mul-w c = record { fits = product-fits _ _ (omega (arith, c .before .pre .0, c .wide .ensures .0)) (c .before .pre .1) }
-
-cast-result : tie.Need-cast-result
-cast-result c = search needs
 
 returns : tie.Need-returns
 returns c =
@@ -27,4 +21,4 @@ returns-2 c =
     (omega (arith, c .if1 .left), omega arith)
 
 pub grown-spec : {M : Type 1} → statement M
-grown-spec = tie.close (tie.spec wide-requires mul-w cast-result returns returns-2)
+grown-spec = tie.close (tie.spec (λ c κs. search needs) mul-w (λ c. search needs) returns returns-2)

@@ -25,21 +25,6 @@ Inv-loop rules n₀ soft i₀ n i = Grown rules n₀ soft n i
 abbrev μ-loop : tie.MeasureT-loop
 μ-loop rules n₀ soft i₀ n i = rules - i
 
-cast-rules : tie.Need-cast-rules Inv-loop μ-loop
-cast-rules c = search needs
-
-wide-requires : tie.Need-wide-requires Inv-loop μ-loop
-wide-requires c κs = search needs
-
-grown-requires : tie.Need-grown-requires Inv-loop μ-loop
-grown-requires c κs = search needs
-
-wide-requires-2 : tie.Need-wide-requires-2 Inv-loop μ-loop
-wide-requires-2 c κs = search needs
-
-grown-requires-2 : tie.Need-grown-requires-2 Inv-loop μ-loop
-grown-requires-2 c κs = search needs
-
 loop-holds : tie.Need-loop-holds Inv-loop μ-loop
 loop-holds c =
     let start = c .before in
@@ -49,27 +34,6 @@ loop-holds c =
       small = start .grown2 .ensures .1;
       held = product-none 2049 _ _ (start .grown2 .ensures .1);
     }
-
-mul-a : tie.Need-mul-a Inv-loop μ-loop
-mul-a c = search needs
-
-array-copy-out-a : tie.Need-array-copy-out-a Inv-loop μ-loop
-array-copy-out-a c = search needs
-
-wide-requires-3 : tie.Need-wide-requires-3 Inv-loop μ-loop
-wide-requires-3 c κs = search needs
-
-add-grown : tie.Need-add-grown Inv-loop μ-loop
-add-grown c = search needs
-
-grown-requires-3 : tie.Need-grown-requires-3 Inv-loop μ-loop
-grown-requires-3 c κs = search needs
-
-add-i : tie.Need-add-i Inv-loop μ-loop
-add-i c = search needs
-
-loop-less : tie.Need-loop-less Inv-loop μ-loop
-loop-less c = search needs
 
 loop-again : tie.Need-loop-again Inv-loop μ-loop
 loop-again c =
@@ -82,9 +46,6 @@ loop-again c =
       held = product-more 2049 _ _ _ _ _ _ (l .inv .held)
           (ap (λ (q : ℕ). q + 1) (c .before .wide3 .ensures .0 ∙ states-default (p .soft) (l .i) _ noAutomaton refl)) (c .grown3 .ensures .0);
     }
-
-cast-result : tie.Need-cast-result Inv-loop μ-loop
-cast-result c = search needs
 
 returns : tie.Need-returns Inv-loop μ-loop
 returns c =
@@ -104,19 +65,19 @@ held-size-spec =
     (tie.spec
     Inv-loop
     μ-loop
-    cast-rules
-    wide-requires
-    grown-requires
-    wide-requires-2
-    grown-requires-2
+    (λ c. search needs)
+    (λ c κs. search needs)
+    (λ c κs. search needs)
+    (λ c κs. search needs)
+    (λ c κs. search needs)
     loop-holds
-    mul-a
-    array-copy-out-a
-    wide-requires-3
-    add-grown
-    grown-requires-3
-    add-i
-    loop-less
+    (λ c. search needs)
+    (λ c. search needs)
+    (λ c κs. search needs)
+    (λ c. search needs)
+    (λ c κs. search needs)
+    (λ c. search needs)
+    (λ c. search needs)
     loop-again
-    cast-result
+    (λ c. search needs)
     returns)
