@@ -5,7 +5,6 @@
 --   Repeated xs n ys m == ys is xs with one of its n entries once more, at any place
 --   any-relisted       == some entry passes a test, in the one list as in the other
 --   repeated-relisted  == a list with an entry repeated has the same entries
---   move a i           == move i of a: from, need, bar, to
 --   SameMoves a b      == a and b have the same states and list the same moves
 --   RepeatedMove a b   == b is a with one of its moves once more
 --   repeated-same      == then they list the same moves
@@ -16,12 +15,12 @@ use mathlib.Core.Bool.{Bool, true, not, _&&_}
 use Prim.Native.Nat.{ℕ, suc, _+_, _-_, _≤_, _<_}
 use native.Mathlib.Decide.{decLt, ℕ-discrete}
 use native.Mathlib.Omega.{arith}
-use lib.ListN.{getD}
 use lib.Dec.{eqb}
 use Rattle.base.specs.Below.{anyBelow}
-use Rattle.automata.specs.Automaton.{guard, moveCount, fits, leads, step, blocked, trapStep, final}
+use Rattle.automata.specs.Automaton.{move, opens, moveCount, fits, leads, step, blocked, trapStep, final}
 use Rattle.automata.specs.Acceptance.{Accepting, HardAccepts, SoftAccepts}
 use Rattle.automata.specs.declared.Automaton.{Automaton}
+use Rattle.automata.specs.declared.Move.{Move}
 use Rattle.base.proofs.Tests.{bool-same, any-intro, any-elim}
 
 module _ {A : Type 0} where
@@ -73,9 +72,6 @@ module _ {A : Type 0} where
           let s : suc (j - 1) ≡ j = omega arith in
           (j - 1, omega (arith, r .longer), ap ys (sym s) ∙ r .after (j - 1) (omega arith) (omega (arith, r .longer)))
 
-unfoldable pub move : Automaton → ℕ → ℕ × ℕ × ℕ × ℕ
-move a i = (getD (a .from) i 0, getD (a .need) i 0, getD (a .bar) i 0, getD (a .to) i 0)
-
 pub record SameMoves (a b : Automaton) : Type 0 where
   pub states : a .states ≡ b .states
   pub first : a .first ≡ b .first
@@ -99,12 +95,12 @@ same-sym s = record { states = sym (s .states); first = sym (s .first); accept =
 
 module _ (a b : Automaton) (s : SameMoves a b) where
   pub same-step : (x q r : ℕ) → step a x q r ≡ step b x q r
-  unfolding step leads fits move
-  same-step x q r = any-relisted (λ m. (eqb (m .0) q && guard x (m .1) (m .2)) && eqb (m .3) r) (move a) (moveCount a) (move b) (moveCount b) (s .moves)
+  unfolding step leads fits
+  same-step x q r = any-relisted (λ (m : Move). (eqb (m .from) q && opens x m) && eqb (m .to) r) (move a) (moveCount a) (move b) (moveCount b) (s .moves)
 
   pub same-blocked : (x q : ℕ) → blocked a x q ≡ blocked b x q
-  unfolding blocked fits move
-  same-blocked x q = ap not (any-relisted (λ m. eqb (m .0) q && guard x (m .1) (m .2)) (move a) (moveCount a) (move b) (moveCount b) (s .moves))
+  unfolding blocked fits
+  same-blocked x q = ap not (any-relisted (λ (m : Move). eqb (m .from) q && opens x m) (move a) (moveCount a) (move b) (moveCount b) (s .moves))
 
   pub same-trap : (x q r : ℕ) → trapStep a x q r ≡ trapStep b x q r
   unfolding trapStep
