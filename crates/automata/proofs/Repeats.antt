@@ -8,8 +8,9 @@
 --   SameMoves a b      == a and b have the same states and list the same moves
 --   RepeatedMove a b   == b is a with one of its moves once more
 --   repeated-same      == then they list the same moves
---   same-step, same-blocked, same-trap, same-final == automata with the same moves: same steps, same blocked states, same accepting ones
---   same-hard, same-soft == and they accept the same words
+--   Alike a b          == a and b have the same states, steps and blocked states
+--   alike-hard, alike-soft == then they accept the same words
+--   same-alike         == automata with the same moves are alike
 use mathlib.Core.Path.{_≡_, refl, sym, ap, _∙_}
 use mathlib.Core.Bool.{Bool, true, not, _&&_}
 use Prim.Native.Nat.{ℕ, suc, _+_, _-_, _≤_, _<_}
@@ -93,25 +94,36 @@ same-refl a = record { states = refl; first = refl; accept = refl; moves = relis
 pub same-sym : {a b : Automaton} → SameMoves a b → SameMoves b a
 same-sym s = record { states = sym (s .states); first = sym (s .first); accept = sym (s .accept); moves = relisted-sym (s .moves) }
 
+pub record Alike (a b : Automaton) : Type 0 where
+  pub states : a .states ≡ b .states
+  pub first : a .first ≡ b .first
+  pub accept : a .accept ≡ b .accept
+  pub steps : (x q r : ℕ) → step a x q r ≡ step b x q r
+  pub blocks : (x q : ℕ) → blocked a x q ≡ blocked b x q
+
+module _ (a b : Automaton) (s : Alike a b) where
+  alike-trap : (x q r : ℕ) → trapStep a x q r ≡ trapStep b x q r
+  unfolding trapStep
+  alike-trap x q r = rw (s .blocks x q, s .steps x q r, s .states)
+
+  alike-final : (q : ℕ) → final a q ≡ final b q
+  unfolding final
+  alike-final q = rw (s .states, s .accept)
+
+  pub alike-hard : (w : ℕ → ℕ) (r l : ℕ) → HardAccepts a w r l ≡ HardAccepts b w r l
+  alike-hard w r l = λ i. Accepting (λ x q r. s .steps x q r i) (s .first i) (λ q. alike-final q i) w r l
+
+  pub alike-soft : (w : ℕ → ℕ) (r l : ℕ) → SoftAccepts a w r l ≡ SoftAccepts b w r l
+  alike-soft w r l = λ i. Accepting (λ x q r. alike-trap x q r i) (s .first i) (λ q. alike-final q i) w r l
+
 module _ (a b : Automaton) (s : SameMoves a b) where
-  pub same-step : (x q r : ℕ) → step a x q r ≡ step b x q r
+  same-step : (x q r : ℕ) → step a x q r ≡ step b x q r
   unfolding step leads fits
   same-step x q r = any-relisted (λ (m : Move). (eqb (m .from) q && opens x m) && eqb (m .to) r) (move a) (moveCount a) (move b) (moveCount b) (s .moves)
 
-  pub same-blocked : (x q : ℕ) → blocked a x q ≡ blocked b x q
+  same-blocked : (x q : ℕ) → blocked a x q ≡ blocked b x q
   unfolding blocked fits
   same-blocked x q = ap not (any-relisted (λ (m : Move). eqb (m .from) q && opens x m) (move a) (moveCount a) (move b) (moveCount b) (s .moves))
 
-  pub same-trap : (x q r : ℕ) → trapStep a x q r ≡ trapStep b x q r
-  unfolding trapStep
-  same-trap x q r = rw (same-blocked x q, same-step x q r, s .states)
-
-  pub same-final : (q : ℕ) → final a q ≡ final b q
-  unfolding final
-  same-final q = rw (s .states, s .accept)
-
-  pub same-hard : (w : ℕ → ℕ) (r l : ℕ) → HardAccepts a w r l ≡ HardAccepts b w r l
-  same-hard w r l = λ i. Accepting (λ x q r. same-step x q r i) (s .first i) (λ q. same-final q i) w r l
-
-  pub same-soft : (w : ℕ → ℕ) (r l : ℕ) → SoftAccepts a w r l ≡ SoftAccepts b w r l
-  same-soft w r l = λ i. Accepting (λ x q r. same-trap x q r i) (s .first i) (λ q. same-final q i) w r l
+  pub same-alike : Alike a b
+  same-alike = record { states = s .states; first = s .first; accept = s .accept; steps = same-step; blocks = same-blocked }

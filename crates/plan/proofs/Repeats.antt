@@ -83,12 +83,12 @@ module _ (p q : Plan) (a : Alike p q) where
   module _ (stem cycle : List ℕ) where
     same-hard : Hard p stem cycle ≡ Hard q stem cycle
     same-hard =
-        automata.same-hard (p .hard) (q .hard) (a .hard) (word p stem cycle) (length stem) (length cycle)
+        automata.alike-hard (p .hard) (q .hard) (automata.same-alike _ _ (a .hard)) (word p stem cycle) (length stem) (length cycle)
         ∙ λ i. HardAccepts (q .hard) (λ t. getD (a .frame .labels i) (lassoAt stem cycle t) 0) (length stem) (length cycle)
 
     same-soft : (i : ℕ) → Soft p stem cycle i ≡ Soft q stem cycle i
     same-soft i =
-        automata.same-soft (soft p i) (soft q i) (a .softs i) (word p stem cycle) (length stem) (length cycle)
+        automata.alike-soft (soft p i) (soft q i) (automata.same-alike _ _ (a .softs i)) (word p stem cycle) (length stem) (length cycle)
         ∙ λ j. SoftAccepts (soft q i) (λ t. getD (a .frame .labels j) (lassoAt stem cycle t) 0) (length stem) (length cycle)
 
     to-tour : IsLasso p stem cycle → IsLasso q stem cycle

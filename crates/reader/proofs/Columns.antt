@@ -41,7 +41,7 @@ zeros-low m (suc n) (suc k) = zeros-low m n k
 pub zeros-rest : (n : ℕ) → ZeroFrom 0 (replicate n 0)
 zeros-rest n k h = omega (arith, zeros-low 0 n k)
 
-column-zeros : (m n : ℕ) → Column m 0 (replicate n 0)
+pub column-zeros : (m n : ℕ) → Column m 0 (replicate n 0)
 column-zeros m n = record { low = zeros-low m n; rest = zeros-rest n }
 
 set-low : (m : ℕ) (xs : List ℕ) (i x : ℕ) → ((k : ℕ) → getD xs k 0 ≤ m) → x ≤ m → (k : ℕ) → getD (set xs i x) k 0 ≤ m

@@ -89,6 +89,7 @@ automatonBlock s prior q labels =
         from = x .from;
         need = x .need;
         bar = x .bar;
+        any = replicate 64 0;
         to = x .to;
       };
     }

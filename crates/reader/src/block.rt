@@ -129,6 +129,7 @@ pub fn automaton_block(s: &[u8], prior: Line, q: u32, labels: u32) -> AutomatonB
     let from = x.from;
     let need = x.need;
     let bar = x.bar;
+    let any = [0u8; 64];
     let to = x.to;
     let automaton = Automaton {
         states: q,
@@ -138,6 +139,7 @@ pub fn automaton_block(s: &[u8], prior: Line, q: u32, labels: u32) -> AutomatonB
         from,
         need,
         bar,
+        any,
         to,
     };
     AutomatonBlock { line, automaton }
@@ -186,6 +188,7 @@ pub fn no_automaton() -> Automaton
         from: [0u8; 64],
         need: [0u8; 64],
         bar: [0u8; 64],
+        any: [0u8; 64],
         to: [0u8; 64],
     }
 }
