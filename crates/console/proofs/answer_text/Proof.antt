@@ -1,6 +1,5 @@
 -- `answer_text` meets its contract: the lengths that the answer tells lie within the buffers (`told-fits`), so its places are
 -- prefixes of these, and their text has room.
-use Rattle.console.proofs.Printing.{text-printed}
 use Rattle.planner.proofs.Verdicts.{told-fits}
 use Rattle.io.proofs.Counting.{front}
 use native.Mathlib.Omega.{arith}
@@ -36,7 +35,8 @@ write-text-requires c κs =
 returns : tie.Need-returns
 returns c =
     let told = answered (c .before .before .before .before .before .before) in
-    text-printed _ _ _ _ _ _ _ _ _ (told .file-answer .ensures) (c .before .before .write-text .ensures .0) (c .before .before .write-text .ensures .1)
+    let w = c .before .before .write-text in
+    record { answer = told .file-answer .result; told = told .file-answer .ensures; text = w .ensures .1; long = w .ensures .0 }
 
 pub answer-text-spec : {M : Type 1} → statement M
 answer-text-spec =
