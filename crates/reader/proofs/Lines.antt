@@ -1,7 +1,5 @@
 -- What a line comes to.
 --   within-both             == what a range test says
---   Told n x j              == the number n ends before index j, and the code knows of its value x, held at 4,000,000,000
---   step-bad, step-none, step-told == what the next number is, by what the code reads
 --   one-held, road-held, move-held == a line of good form is judged by held values as by the exact ones: a test against a bound of at
 --                              most 4,000,000,000 does not tell the two apart, and a number that passes it was not held
 --   one-fault, one-bad, one-good, .. == what each kind of line is: by the line before it, and by its last number
@@ -20,10 +18,11 @@ use lib.Dec.{ltb}
 use borrow.Author.Tests.{ltb-true, ltb-false, lt-ltb, le-ltb}
 use Rattle.base.proofs.Tests.{and-left, and-right}
 use Rattle.text.specs.Fault as fault
-use Rattle.text.specs.Scan.{keyAt, numberAt, nextNumber, valueOf, cap, lineAt}
+use Rattle.text.specs.Scan.{keyAt, nextNumber, valueOf, lineAt}
 use Rattle.text.specs.declared.fault.Fault.{Fault}
 use Rattle.text.specs.declared.read.Number.{Number}
 use Rattle.text.specs.declared.read.Number.the-variants.{Value, Bad}
+use Rattle.text.proofs.Held.{Told}
 use Rattle.reader.specs.Line.{noNumbers, badForm, judged, closed, within, lineOfOne, roadFits, roadLine, moveFits, moveLine, numbersOf, OneRead, RoadRead, MoveRead}
 use Rattle.reader.specs.declared.line.Numbers.{Numbers}
 use Rattle.reader.specs.declared.line.Cursor.{Cursor}
@@ -37,36 +36,6 @@ within-both x low bound e = by-test (ltb x low) (ltb x bound) refl refl e
     by-test : (t u : Bool) → ltb x low ≡ t → ltb x bound ≡ u → cond t false u ≡ true → (low ≤ x) × (x < bound)
     by-test true u p q e = let z : _≡_ {A = ℕ} 0 1 = cc in absurd (omega arith)
     by-test false u p q e = (ltb-false x low p, ltb-true x bound (q ∙ e))
-
--- the steps of a line, as the code knows them: n is a number that ends before index j, of which the held value is x
-pub record Told (n : Number) (x j : ℕ) : Type 0 where
-  pub is : n ≡ Value (valueOf n) j
-  pub held : x ≡ min (valueOf n) 4000000000
-
-abbrev indexOf : Number → ℕ
-indexOf (Value v i) = i
-indexOf Bad = 0
-
-cap-value : (n : Number) (x i : ℕ) → cap n ≡ Value x i → Told n x i
-unfolding cap
-cap-value (Value v j) x i e = record { is = ap (λ k. Value v k) (ap indexOf e); held = sym (ap valueOf e) }
-cap-value Bad x i e = let z : _≡_ {A = ℕ} 0 1 = cc in absurd (omega arith)
-
-cap-bad : (n : Number) → cap n ≡ Bad → n ≡ Bad
-unfolding cap
-cap-bad (Value v j) e = let z : _≡_ {A = ℕ} 0 1 = cc in absurd (omega arith)
-cap-bad Bad e = refl
-
-module _ (s : List ℕ) (n : Number) (e : ℕ) where
-  pub step-bad : n ≡ Bad → nextNumber s n e ≡ Bad
-  step-bad p = rw p
-
-  module _ (v i : ℕ) (p : n ≡ Value v i) where
-    pub step-none : cap (numberAt s i e) ≡ Bad → nextNumber s n e ≡ Bad
-    step-none q = rw p (cap-bad (numberAt s i e) q)
-
-    pub step-told : (x j : ℕ) → cap (numberAt s i e) ≡ Value x j → Told (nextNumber s n e) x j
-    step-told x j q = rw p (cap-value (numberAt s i e) x j q)
 
 -- the exact values are v, the held ones x
 record Same (v x bound : ℕ) : Type 0 where
@@ -162,10 +131,10 @@ module _ (s : List ℕ) (l : Line) (key : List ℕ) (xs : Numbers) (c : Cursor) 
   unfolding roadLine
   road-bad bound e = rw (p, e)
 
-  pub road-good : (bound x y i n : ℕ) → bound ≤ 4000000000 → Told (first 44) x i → Told (nextNumber s (first 44) 10) y n
+  pub road-good : (bound x y n : ℕ) → bound ≤ 4000000000 → x ≡ min (valueOf (first 44)) 4000000000 → Told (nextNumber s (first 44) 10) y n
       → judged s (c .at) n (roadFits (numbers x y 0 0) bound) (numbers x y 0 0) ≡ roadLine s l key bound
   unfolding roadLine
-  road-good bound x y i n h a b = road-held s (c .at) n _ _ x y bound (a .held) (b .held) h ∙ rw (p, b .is)
+  road-good bound x y n h a b = road-held s (c .at) n _ _ x y bound a (b .held) h ∙ rw (p, b .is)
 
   abbrev third : Number
   third = nextNumber s (nextNumber s (first 44) 44) 44
@@ -174,12 +143,12 @@ module _ (s : List ℕ) (l : Line) (key : List ℕ) (xs : Numbers) (c : Cursor) 
   unfolding moveLine
   move-bad q labels e = rw (p, e)
 
-  pub move-good : (q labels x y z o i j k n : ℕ) → q ≤ 4000000000 → labels ≤ 4000000000
-      → Told (first 44) x i → Told (nextNumber s (first 44) 44) y j → Told third z k → Told (nextNumber s third 10) o n
+  pub move-good : (q labels x y z o n : ℕ) → q ≤ 4000000000 → labels ≤ 4000000000 → x ≡ min (valueOf (first 44)) 4000000000
+      → y ≡ min (valueOf (nextNumber s (first 44) 44)) 4000000000 → z ≡ min (valueOf third) 4000000000 → Told (nextNumber s third 10) o n
       → judged s (c .at) n (moveFits (numbers x y z o) q labels) (numbers x y z o) ≡ moveLine s l key q labels
   unfolding moveLine
-  move-good q labels x y z o i j k n h g a b d e =
-      move-held s (c .at) n _ _ _ _ x y z o q labels (a .held) (b .held) (d .held) (e .held) h g ∙ rw (p, e .is)
+  move-good q labels x y z o n h g a b d e =
+      move-held s (c .at) n _ _ _ _ x y z o q labels a b d (e .held) h g ∙ rw (p, e .is)
 
 -- what a line leads to
 abbrev pub good : Line → Bool

@@ -4,7 +4,8 @@ use text::fault::Fault;
 use text::read::Number;
 use text::read::key_at;
 use text::read::line_at;
-use text::read::number_at;
+use text::read::next_number;
+use text::read::value_of;
 ghost use mathlib.Core.Path.{_≡_};
 ghost use Prim.Native.Nat.{_≤_};
 ghost use Rattle.reader.specs.Line.{noNumbers, badForm, judged, within, lineOfOne, roadFits, roadLine, moveFits, moveLine, OneRead, RoadRead, MoveRead, numbersOf, top, finish};
@@ -73,11 +74,7 @@ pub fn line_of_one(s: &[u8], prior: Line, key: &[u8], low: u32, bound: u32) -> L
         return prior;
     };
     let from = cursor.at;
-    let k = key_at(s, from, key);
-    let Number::Value(_, i) = k else {
-        return bad_form(s, from);
-    };
-    let a = number_at(s, i, b'\n');
+    let a = next_number(s, key_at(s, from, key), b'\n');
     let Number::Value(x, at) = a else {
         return bad_form(s, from);
     };
@@ -99,7 +96,7 @@ fn road_fits(xs: Numbers, bound: u32) -> bool
     xs.second < bound
 }
 
-// A line `road=a,b`, both below `bound`.
+// A line `key=a,b`, both below `bound`.
 pub fn road_line(s: &[u8], prior: Line, key: &[u8], bound: u32) -> Line
     requires { ⌜ bound ≤ 4000000000 ⌝ }
     ensures { λ r. ⌜ RoadRead (roadLine (now (s .entry)) prior (now (key .entry)) bound) bound r ⌝ }
@@ -108,20 +105,13 @@ pub fn road_line(s: &[u8], prior: Line, key: &[u8], bound: u32) -> Line
         return prior;
     };
     let from = cursor.at;
-    let k = key_at(s, from, key);
-    let Number::Value(_, i) = k else {
-        return bad_form(s, from);
-    };
-    let a = number_at(s, i, b',');
-    let Number::Value(x, j) = a else {
-        return bad_form(s, from);
-    };
-    let b = number_at(s, j, b'\n');
+    let a = next_number(s, key_at(s, from, key), b',');
+    let b = next_number(s, a, b'\n');
     let Number::Value(y, at) = b else {
         return bad_form(s, from);
     };
     let xs = Numbers {
-        first: x,
+        first: value_of(a),
         second: y,
         third: 0,
         fourth: 0,
@@ -144,7 +134,7 @@ fn move_fits(xs: Numbers, states: u32, labels: u32) -> bool
     xs.fourth < states
 }
 
-// A line `move=q,need,bar,r`: q and r are below `states`, need and bar below `labels`.
+// A line `key=q,need,bar,r`: q and r are below `states`, need and bar below `labels`.
 pub fn move_line(s: &[u8], prior: Line, key: &[u8], states: u32, labels: u32) -> Line
     requires { ⌜ (states ≤ 4000000000) × (labels ≤ 4000000000) ⌝ }
     ensures { λ r. ⌜ MoveRead (moveLine (now (s .entry)) prior (now (key .entry)) states labels) states labels r ⌝ }
@@ -153,31 +143,18 @@ pub fn move_line(s: &[u8], prior: Line, key: &[u8], states: u32, labels: u32) ->
         return prior;
     };
     let from = cursor.at;
-    let k = key_at(s, from, key);
-    let Number::Value(_, i) = k else {
-        return bad_form(s, from);
-    };
-    let a = number_at(s, i, b',');
-    let Number::Value(x, j) = a else {
-        return bad_form(s, from);
-    };
-    let b = number_at(s, j, b',');
-    let Number::Value(y, l) = b else {
-        return bad_form(s, from);
-    };
-    let c = number_at(s, l, b',');
-    let Number::Value(z, m) = c else {
-        return bad_form(s, from);
-    };
-    let d = number_at(s, m, b'\n');
-    let Number::Value(w, at) = d else {
+    let a = next_number(s, key_at(s, from, key), b',');
+    let b = next_number(s, a, b',');
+    let c = next_number(s, b, b',');
+    let last = next_number(s, c, b'\n');
+    let Number::Value(r, at) = last else {
         return bad_form(s, from);
     };
     let xs = Numbers {
-        first: x,
-        second: y,
-        third: z,
-        fourth: w,
+        first: value_of(a),
+        second: value_of(b),
+        third: value_of(c),
+        fourth: r,
     };
     judged(s, from, at, move_fits(xs, states, labels), xs)
 }

@@ -9,6 +9,8 @@
 --   numberAt s at e    == the number at index `at` of s, ended by the byte e, with the index just past e; Bad if none is there
 --   keyAt s at key     == the key at index `at` of s, as a number 0, with the index just past it; Bad if it is not there
 --   nextNumber s n e   == the number behind n, ended by the byte e; Bad if n is: a chain of numbers stays bad
+--   elseNumber s n m e == where n is Bad, the number behind m, ended by the byte e; else Bad
+--   either n m         == n, or where it is Bad m
 --   valueOf n          == the value of a number, 0 of Bad
 --   cap n              == n with its value held at 4,000,000,000; no part of the format, it says what the code knows of a number
 --   newline b          == 1 for the byte 10, 0 for any other
@@ -59,6 +61,14 @@ keyAt s at key = pick (startsWith key (drop at s)) (Value 0 (at + length key))
 abbrev pub nextNumber : List ℕ → Number → ℕ → Number
 nextNumber s (Value v i) e = numberAt s i e
 nextNumber s Bad e = Bad
+
+abbrev pub elseNumber : List ℕ → Number → Number → ℕ → Number
+elseNumber s (Value v i) m e = Bad
+elseNumber s Bad m e = nextNumber s m e
+
+abbrev pub either : Number → Number → Number
+either (Value v i) m = Value v i
+either Bad m = m
 
 abbrev pub valueOf : Number → ℕ
 valueOf (Value v i) = v

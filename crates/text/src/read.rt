@@ -1,7 +1,7 @@
 //! Readers of a text: keys, decimal numbers and line numbers.
 ghost use mathlib.Core.Path.{_≡_};
 ghost use Prim.Native.Nat.{_+_, _-_, _*_, _≤_, _<_, min};
-ghost use Rattle.text.specs.Scan.{isDigit, canonical, keyAt, numberAt, cap, newline, lineAt};
+ghost use Rattle.text.specs.Scan.{isDigit, canonical, keyAt, numberAt, nextNumber, elseNumber, either, valueOf, cap, newline, lineAt};
 
 // A number with the index just past it, or no number of good form there.
 pub enum Number {
@@ -97,6 +97,46 @@ pub fn number_at(s: &[u8], at: usize, end: u8) -> Number
         i += 1;
     }
     Number::Bad
+}
+
+// The number behind n, ended by the byte `end`. A chain of numbers stays bad.
+pub fn next_number(s: &[u8], n: Number, end: u8) -> Number
+    ensures { λ r. ⌜ r ≡ cap (nextNumber (now (s .entry)) n end) ⌝ }
+{
+    match n {
+        Number::Value(_, at) => number_at(s, at, end),
+        Number::Bad => Number::Bad,
+    }
+}
+
+// Where n is no number, the number behind m, ended by the byte `end`.
+pub fn else_number(s: &[u8], n: Number, m: Number, end: u8) -> Number
+    ensures { λ r. ⌜ r ≡ cap (elseNumber (now (s .entry)) n m end) ⌝ }
+{
+    match n {
+        Number::Value(_, _) => Number::Bad,
+        Number::Bad => next_number(s, m, end),
+    }
+}
+
+// The first of the two that is a number.
+pub fn either(n: Number, m: Number) -> Number
+    ensures { λ r. ⌜ r ≡ either n m ⌝ }
+{
+    match n {
+        Number::Value(_, _) => n,
+        Number::Bad => m,
+    }
+}
+
+// The value of a number, 0 where its form is bad.
+pub fn value_of(n: Number) -> u32
+    ensures { λ r. ⌜ r ≡ valueOf n ⌝ }
+{
+    match n {
+        Number::Value(v, _) => v,
+        Number::Bad => 0,
+    }
 }
 
 fn newline(b: u8) -> usize

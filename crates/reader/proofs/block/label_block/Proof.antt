@@ -26,27 +26,6 @@ abbrev μ-loop : tie.MeasureT-loop
 loop-holds : tie.Need-loop-holds Inv-loop μ-loop
 loop-holds c = record { within = omega arith; room = search needs; bytes = search needs; same = labels-start _ _ _ _ }
 
-slice-aggregate-line-of-one : tie.Need-slice-aggregate-line-of-one Inv-loop μ-loop
-slice-aggregate-line-of-one c = search needs
-
-line-of-one-requires : tie.Need-line-of-one-requires Inv-loop μ-loop
-line-of-one-requires c κs = search needs
-
-first-of-requires : tie.Need-first-of-requires Inv-loop μ-loop
-first-of-requires c κs = search needs
-
-cast-labels : tie.Need-cast-labels Inv-loop μ-loop
-cast-labels c = search needs
-
-array-write-labels : tie.Need-array-write-labels Inv-loop μ-loop
-array-write-labels c = search needs
-
-add-i : tie.Need-add-i Inv-loop μ-loop
-add-i c = search needs
-
-loop-less : tie.Need-loop-less Inv-loop μ-loop
-loop-less c = search needs
-
 loop-again : tie.Need-loop-again Inv-loop μ-loop
 loop-again c =
     let l = c .before .before .before .before .loop in
@@ -68,12 +47,12 @@ label-block-spec =
     Inv-loop
     μ-loop
     loop-holds
-    slice-aggregate-line-of-one
-    line-of-one-requires
-    first-of-requires
-    cast-labels
-    array-write-labels
-    add-i
-    loop-less
+    (λ c. search needs)
+    (λ c κs. search needs)
+    (λ c κs. search needs)
+    (λ c. search needs)
+    (λ c. search needs)
+    (λ c. search needs)
+    (λ c. search needs)
     loop-again
     returns)

@@ -6,9 +6,6 @@ use borrow.Author.Needs.{needs}
 use Rattle.reader.proofs.block.label_count.Statement.{statement}
 use Rattle.reader.proofs.block.label_count.Tie as tie
 
-power-requires : tie.Need-power-requires
-power-requires c κs = search needs
-
 returns : tie.Need-returns
 returns c =
     let h : 2 ^ c .before .args .m ≤ 2 ^ 8 = pow-le-pow-right (omega arith) (c .before .pre) in
@@ -16,4 +13,4 @@ returns c =
     (c .power .ensures .0, rw (c .power .ensures .0) k)
 
 pub label-count-spec : {M : Type 1} → statement M
-label-count-spec = tie.close (tie.spec power-requires returns)
+label-count-spec = tie.close (tie.spec (λ c κs. search needs) returns)

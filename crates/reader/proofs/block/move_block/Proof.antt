@@ -35,52 +35,25 @@ turn n = read n .before .before
 loop-holds : tie.Need-loop-holds Inv-loop μ-loop
 loop-holds c = record { within = omega arith; room = search needs; state-bytes = search needs; label-bytes = search needs; same = moves-start _ _ _ _ _ }
 
-slice-aggregate-move-line : tie.Need-slice-aggregate-move-line Inv-loop μ-loop
-slice-aggregate-move-line c = search needs
-
-move-line-requires : tie.Need-move-line-requires Inv-loop μ-loop
-move-line-requires c κs = search needs
-
-numbers-of-requires : tie.Need-numbers-of-requires Inv-loop μ-loop
-numbers-of-requires c κs = search needs
-
 cast-from : tie.Need-cast-from Inv-loop μ-loop
 cast-from c =
     let n = c .before in
     record { fits = byte (λ xs. xs .first) _ _ _ (n .numbers-of .ensures) (read n .move-line .ensures .first-low) (turn n .before .loop .inv .state-bytes) }
-
-array-write-from : tie.Need-array-write-from Inv-loop μ-loop
-array-write-from c = search needs
 
 cast-need : tie.Need-cast-need Inv-loop μ-loop
 cast-need c =
     let n = c .before .before in
     record { fits = byte (λ xs. xs .second) _ _ _ (n .numbers-of .ensures) (read n .move-line .ensures .second-low) (turn n .before .loop .inv .label-bytes) }
 
-array-write-need : tie.Need-array-write-need Inv-loop μ-loop
-array-write-need c = search needs
-
 cast-bar : tie.Need-cast-bar Inv-loop μ-loop
 cast-bar c =
     let n = c .before .before .before in
     record { fits = byte (λ xs. xs .third) _ _ _ (n .numbers-of .ensures) (read n .move-line .ensures .third-low) (turn n .before .loop .inv .label-bytes) }
 
-array-write-bar : tie.Need-array-write-bar Inv-loop μ-loop
-array-write-bar c = search needs
-
 cast-to : tie.Need-cast-to Inv-loop μ-loop
 cast-to c =
     let n = c .before .before .before .before in
     record { fits = byte (λ xs. xs .fourth) _ _ _ (n .numbers-of .ensures) (read n .move-line .ensures .fourth-low) (turn n .before .loop .inv .state-bytes) }
-
-array-write-to : tie.Need-array-write-to Inv-loop μ-loop
-array-write-to c = search needs
-
-add-i : tie.Need-add-i Inv-loop μ-loop
-add-i c = search needs
-
-loop-less : tie.Need-loop-less Inv-loop μ-loop
-loop-less c = search needs
 
 loop-again : tie.Need-loop-again Inv-loop μ-loop
 loop-again c =
@@ -104,18 +77,18 @@ move-block-spec =
     Inv-loop
     μ-loop
     loop-holds
-    slice-aggregate-move-line
-    move-line-requires
-    numbers-of-requires
+    (λ c. search needs)
+    (λ c κs. search needs)
+    (λ c κs. search needs)
     cast-from
-    array-write-from
+    (λ c. search needs)
     cast-need
-    array-write-need
+    (λ c. search needs)
     cast-bar
-    array-write-bar
+    (λ c. search needs)
     cast-to
-    array-write-to
-    add-i
-    loop-less
+    (λ c. search needs)
+    (λ c. search needs)
+    (λ c. search needs)
     loop-again
     returns)

@@ -7,9 +7,6 @@ use borrow.Author.Needs.{needs}
 use Rattle.reader.proofs.block.power.Statement.{statement}
 use Rattle.reader.proofs.block.power.Tie as tie
 
-shl-result : tie.Need-shl-result
-shl-result c = search needs
-
 returns : tie.Need-returns
 returns c =
     let m = c .args .m in
@@ -20,4 +17,4 @@ returns c =
     (z, rw z k)
 
 pub power-spec : {M : Type 1} → statement M
-power-spec = tie.close (tie.spec shl-result returns)
+power-spec = tie.close (tie.spec (λ c. search needs) returns)

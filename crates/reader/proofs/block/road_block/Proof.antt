@@ -34,36 +34,15 @@ turn n = read n .before .before
 loop-holds : tie.Need-loop-holds Inv-loop μ-loop
 loop-holds c = record { within = omega arith; room = search needs; bytes = search needs; same = roads-start _ _ _ _ }
 
-slice-aggregate-road-line : tie.Need-slice-aggregate-road-line Inv-loop μ-loop
-slice-aggregate-road-line c = search needs
-
-road-line-requires : tie.Need-road-line-requires Inv-loop μ-loop
-road-line-requires c κs = search needs
-
-numbers-of-requires : tie.Need-numbers-of-requires Inv-loop μ-loop
-numbers-of-requires c κs = search needs
-
 cast-from : tie.Need-cast-from Inv-loop μ-loop
 cast-from c =
     let n = c .before in
     record { fits = byte (λ xs. xs .first) _ _ _ (n .numbers-of .ensures) (read n .road-line .ensures .first-low) (turn n .before .loop .inv .bytes) }
 
-array-write-from : tie.Need-array-write-from Inv-loop μ-loop
-array-write-from c = search needs
-
 cast-to : tie.Need-cast-to Inv-loop μ-loop
 cast-to c =
     let n = c .before .before in
     record { fits = byte (λ xs. xs .second) _ _ _ (n .numbers-of .ensures) (read n .road-line .ensures .second-low) (turn n .before .loop .inv .bytes) }
-
-array-write-to : tie.Need-array-write-to Inv-loop μ-loop
-array-write-to c = search needs
-
-add-i : tie.Need-add-i Inv-loop μ-loop
-add-i c = search needs
-
-loop-less : tie.Need-loop-less Inv-loop μ-loop
-loop-less c = search needs
 
 loop-again : tie.Need-loop-again Inv-loop μ-loop
 loop-again c =
@@ -86,14 +65,14 @@ road-block-spec =
     Inv-loop
     μ-loop
     loop-holds
-    slice-aggregate-road-line
-    road-line-requires
-    numbers-of-requires
+    (λ c. search needs)
+    (λ c κs. search needs)
+    (λ c κs. search needs)
     cast-from
-    array-write-from
+    (λ c. search needs)
     cast-to
-    array-write-to
-    add-i
-    loop-less
+    (λ c. search needs)
+    (λ c. search needs)
+    (λ c. search needs)
     loop-again
     returns)

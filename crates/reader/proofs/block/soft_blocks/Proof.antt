@@ -24,33 +24,9 @@ Inv-loop s n labels line₀ soft₀ weights₀ i₀ line soft weights i = Read s
 abbrev μ-loop : tie.MeasureT-loop
 μ-loop s n labels line₀ soft₀ weights₀ i₀ line soft weights i = n - i
 
-no-automaton-requires : tie.Need-no-automaton-requires Inv-loop μ-loop
-no-automaton-requires c κs = search needs
-
 loop-holds : tie.Need-loop-holds Inv-loop μ-loop
 loop-holds c =
     record { within = omega arith; room = c .before .before .pre .0; bytes = c .before .before .pre .1; same = softs-start _ _ _ _ _ (c .no-automaton .ensures) }
-
-soft-block-requires : tie.Need-soft-block-requires Inv-loop μ-loop
-soft-block-requires c κs = search needs
-
-mul-soft : tie.Need-mul-soft Inv-loop μ-loop
-mul-soft c = search needs
-
-array-set-from-soft : tie.Need-array-set-from-soft Inv-loop μ-loop
-array-set-from-soft c = search needs
-
-mul-weights : tie.Need-mul-weights Inv-loop μ-loop
-mul-weights c = search needs
-
-array-write-weights : tie.Need-array-write-weights Inv-loop μ-loop
-array-write-weights c = search needs
-
-add-i : tie.Need-add-i Inv-loop μ-loop
-add-i c = search needs
-
-loop-less : tie.Need-loop-less Inv-loop μ-loop
-loop-less c = search needs
 
 loop-again : tie.Need-loop-again Inv-loop μ-loop
 loop-again c =
@@ -71,14 +47,14 @@ soft-blocks-spec =
     (tie.spec
     Inv-loop
     μ-loop
-    no-automaton-requires
+    (λ c κs. search needs)
     loop-holds
-    soft-block-requires
-    mul-soft
-    array-set-from-soft
-    mul-weights
-    array-write-weights
-    add-i
-    loop-less
+    (λ c κs. search needs)
+    (λ c. search needs)
+    (λ c. search needs)
+    (λ c. search needs)
+    (λ c. search needs)
+    (λ c. search needs)
+    (λ c. search needs)
     loop-again
     returns)

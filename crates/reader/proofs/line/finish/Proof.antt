@@ -5,18 +5,9 @@ use borrow.Author.Needs.{needs}
 use Rattle.reader.proofs.line.finish.Statement.{statement}
 use Rattle.reader.proofs.line.finish.Tie as tie
 
-enum-known-last : tie.Need-enum-known-last
-enum-known-last c = search needs
-
-enum-told : tie.Need-enum-told
-enum-told c = search needs
-
 returns : tie.Need-returns
 unfolding finish
 returns c = rw (c .enum-told .given .1)
-
-line-at-requires : tie.Need-line-at-requires
-line-at-requires c κs = search needs
 
 returns-2 : tie.Need-returns-2
 unfolding finish
@@ -28,4 +19,4 @@ returns-3 c = rw (c .before .before .last .given .1, le-ltb _ _ (c .if1 .left))
 
 pub finish-spec : {M : Type 1} → statement M
 finish-spec =
-    tie.close (tie.spec enum-known-last enum-told returns line-at-requires returns-2 returns-3)
+    tie.close (tie.spec (λ c. search needs) (λ c. search needs) returns (λ c κs. search needs) returns-2 returns-3)

@@ -6,11 +6,8 @@ use Rattle.reader.proofs.line.judged.Tie as tie
 returns : tie.Need-returns
 returns c = rw (c .if1 .taken)
 
-line-at-requires : tie.Need-line-at-requires
-line-at-requires c κs = search needs
-
 returns-2 : tie.Need-returns-2
 returns-2 c = rw (c .before .if1 .left, c .line-at .ensures)
 
 pub judged-spec : {M : Type 1} → statement M
-judged-spec = tie.close (tie.spec returns line-at-requires returns-2)
+judged-spec = tie.close (tie.spec returns (λ c κs. search needs) returns-2)

@@ -34,21 +34,6 @@ returns c =
     let l = c .before .before in let a = start l .args in
     omega (arith, l .loop .inv .same, newlines-past (a .s .now) (a .at) (l .loop .i) (c .if1 .taken))
 
-shared-slice-read-newline : tie.Need-shared-slice-read-newline Inv-loop μ-loop
-shared-slice-read-newline c = search needs
-
-newline-requires : tie.Need-newline-requires Inv-loop μ-loop
-newline-requires c κs = search needs
-
-add-line : tie.Need-add-line Inv-loop μ-loop
-add-line c = search needs
-
-add-i : tie.Need-add-i Inv-loop μ-loop
-add-i c = search needs
-
-loop-less : tie.Need-loop-less Inv-loop μ-loop
-loop-less c = search needs
-
 loop-again : tie.Need-loop-again Inv-loop μ-loop
 loop-again c =
     let e = c .before .before in let l = e .before .before in let a = start l .args in
@@ -72,10 +57,10 @@ line-at-spec =
     μ-loop
     loop-holds
     returns
-    shared-slice-read-newline
-    newline-requires
-    add-line
-    add-i
-    loop-less
+    (λ c. search needs)
+    (λ c κs. search needs)
+    (λ c. search needs)
+    (λ c. search needs)
+    (λ c. search needs)
     loop-again
     returns-2)

@@ -48,31 +48,10 @@ module _ (c : tie.Then1 Inv-loop μ-loop) where
   all-passed : digitCount (drop (start l .args .at) (start l .args .s .now)) ≡ l .loop .i - start l .args .at
   all-passed = omega (arith, l .loop .inv .count, none-here (start l .args .s .now) (l .loop .i) (turn (c .before) .loop-test .taken) no-digit)
 
-loop-holds : tie.Need-loop-holds Inv-loop μ-loop
-loop-holds c = search needs
-
-shared-slice-read-b : tie.Need-shared-slice-read-b Inv-loop μ-loop
-shared-slice-read-b c = search needs
-
-digit-requires : tie.Need-digit-requires Inv-loop μ-loop
-digit-requires c κs = search needs
-
 returns : tie.Need-returns Inv-loop μ-loop
 returns c =
     let t = turn (c .before .before) in let l = t .before in
     ends-otherwise (start l .args .s .now) _ (l .loop .i) _ (l .loop .inv .from) (all-passed (c .before)) (t .loop-test .taken) (c .if2 .taken)
-
-shared-slice-read-canonical : tie.Need-shared-slice-read-canonical Inv-loop μ-loop
-shared-slice-read-canonical c = search needs
-
-sub-canonical : tie.Need-sub-canonical Inv-loop μ-loop
-sub-canonical c = search needs
-
-canonical-requires : tie.Need-canonical-requires Inv-loop μ-loop
-canonical-requires c κs = search needs
-
-add-t17 : tie.Need-add-t17 Inv-loop μ-loop
-add-t17 c = search needs
 
 returns-2 : tie.Need-returns-2 Inv-loop μ-loop
 returns-2 c =
@@ -91,12 +70,6 @@ returns-3 c =
 
 append-digit-requires : tie.Need-append-digit-requires Inv-loop μ-loop
 append-digit-requires c κs = digit-range _ (sym (c .before .digit .ensures) ∙ not-false _ (c .if1 .left))
-
-add-i : tie.Need-add-i Inv-loop μ-loop
-add-i c = search needs
-
-loop-less : tie.Need-loop-less Inv-loop μ-loop
-loop-less c = search needs
 
 loop-again : tie.Need-loop-again Inv-loop μ-loop
 loop-again c =
@@ -124,18 +97,18 @@ number-at-spec =
     (tie.spec
     Inv-loop
     μ-loop
-    loop-holds
-    shared-slice-read-b
-    digit-requires
+    (λ c. search needs)
+    (λ c. search needs)
+    (λ c κs. search needs)
     returns
-    shared-slice-read-canonical
-    sub-canonical
-    canonical-requires
-    add-t17
+    (λ c. search needs)
+    (λ c. search needs)
+    (λ c κs. search needs)
+    (λ c. search needs)
     returns-2
     returns-3
     append-digit-requires
-    add-i
-    loop-less
+    (λ c. search needs)
+    (λ c. search needs)
     loop-again
     returns-4)

@@ -62,23 +62,11 @@ put-byte-requires c κs =
     let t = c .before in let l = t .before in
     comma-room (start l .args .numbers .now) (l .loop .i) (t .loop-test .taken) (l .loop .inv .1)
 
-shared-slice-read-wide : tie.Need-shared-slice-read-wide Inv-loop μ-loop
-shared-slice-read-wide c = search needs
-
-wide-requires : tie.Need-wide-requires Inv-loop μ-loop
-wide-requires c κs = search needs
-
 put-decimal-requires : tie.Need-put-decimal-requires Inv-loop μ-loop
 put-decimal-requires c κs =
     let b = comma c in let t = b .before .before in let l = t .before in
     rw (c .wide .ensures)
     (number-room (start l .args .numbers .now) (l .loop .i) (t .loop-test .taken) (l .loop .inv .1) (b .put-byte .ensures))
-
-add-i : tie.Need-add-i Inv-loop μ-loop
-add-i c = search needs
-
-loop-less : tie.Need-loop-less Inv-loop μ-loop
-loop-less c = search needs
 
 loop-again : tie.Need-loop-again Inv-loop μ-loop
 loop-again c =
@@ -104,11 +92,11 @@ put-commaed-spec =
     μ-loop
     loop-holds
     put-byte-requires
-    shared-slice-read-wide
-    wide-requires
+    (λ c. search needs)
+    (λ c κs. search needs)
     put-decimal-requires
-    add-i
-    loop-less
+    (λ c. search needs)
+    (λ c. search needs)
     loop-again
     same-length
     returns)

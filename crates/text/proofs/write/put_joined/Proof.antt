@@ -60,34 +60,16 @@ put-first c = c .before .before .before .before
 returns : tie.Need-returns
 returns c = let a = start (c .before) .args in none (a .out .now) (a .at) (a .numbers .now) (c .if1 .taken)
 
-shared-slice-read-wide : tie.Need-shared-slice-read-wide
-shared-slice-read-wide c = search needs
-
-wide-requires : tie.Need-wide-requires
-wide-requires c κs = search needs
-
 put-decimal-requires : tie.Need-put-decimal-requires
 put-decimal-requires c κs =
     let a = some c .args in
     rw (c .wide .ensures) (first-room (a .numbers .now) (omega arith) (a .out .now) (a .at) (some c .pre))
-
-sub-put-commaed : tie.Need-sub-put-commaed
-sub-put-commaed c = search needs
-
-part-put-commaed-start : tie.Need-part-put-commaed-start
-part-put-commaed-start c = search needs
-
-part-put-commaed-end : tie.Need-part-put-commaed-end
-part-put-commaed-end c = search needs
 
 put-commaed-requires : tie.Need-put-commaed-requires
 put-commaed-requires c κs =
     let f = put-first c in let w = f .before in let a = some w .args in
     rw part-to-end
     (others-room (a .numbers .now) (omega arith) (a .out .now) (a .at) (some w .pre) (w .wide .ensures) (f .put-decimal .ensures))
-
-same-length : tie.Need-same-length
-same-length c = search needs
 
 returns-2 : tie.Need-returns-2
 returns-2 c =
@@ -100,12 +82,12 @@ put-joined-spec =
     tie.close
     (tie.spec
     returns
-    shared-slice-read-wide
-    wide-requires
+    (λ c. search needs)
+    (λ c κs. search needs)
     put-decimal-requires
-    sub-put-commaed
-    part-put-commaed-start
-    part-put-commaed-end
+    (λ c. search needs)
+    (λ c. search needs)
+    (λ c. search needs)
     put-commaed-requires
-    same-length
+    (λ c. search needs)
     returns-2)
