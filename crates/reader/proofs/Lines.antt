@@ -23,7 +23,7 @@ use Rattle.text.specs.declared.fault.Fault.{Fault}
 use Rattle.text.specs.declared.read.Number.{Number}
 use Rattle.text.specs.declared.read.Number.the-variants.{Value, Bad}
 use Rattle.text.proofs.Held.{Told}
-use Rattle.reader.specs.Line.{noNumbers, badForm, judged, closed, within, lineOfOne, roadFits, roadLine, moveFits, moveLine, numbersOf, OneRead, RoadRead, MoveRead}
+use Rattle.reader.specs.Line.{pair, badForm, judged, closed, within, lineOfOne, roadFits, roadLine, moveFits, moveLine, numbersOf, OneRead, RoadRead, MoveRead}
 use Rattle.reader.specs.declared.line.Numbers.{Numbers}
 use Rattle.reader.specs.declared.line.Cursor.{Cursor}
 use Rattle.reader.specs.declared.line.Line.{Line}
@@ -59,7 +59,7 @@ numbers a b c d = record { first = a; second = b; third = c; fourth = d }
 
 module _ (s : List ℕ) (at next : ℕ) where
   one-held : (v x low bound : ℕ) → x ≡ min v 4000000000 → bound ≤ 4000000000
-      → judged s at next (within x low bound) (numbers x 0 0 0) ≡ judged s at next (within v low bound) (numbers v 0 0 0)
+      → judged s at next (within x low bound) (pair x 0) ≡ judged s at next (within v low bound) (pair v 0)
   unfolding within
   one-held v x low bound e h = by (ltb v low) (ltb x low) refl refl
     where
@@ -67,7 +67,7 @@ module _ (s : List ℕ) (at next : ℕ) where
       k = same-below v x bound e h
 
       by : (t u : Bool) → ltb v low ≡ t → ltb x low ≡ u
-          → judged s at next (cond u false (ltb x bound)) (numbers x 0 0 0) ≡ judged s at next (cond t false (ltb v bound)) (numbers v 0 0 0)
+          → judged s at next (cond u false (ltb x bound)) (pair x 0) ≡ judged s at next (cond t false (ltb v bound)) (pair v 0)
       by true true p q = refl
       by false false p q = judged-same s at next _ _ _ _ (k .test) (λ g. rw (k .passed g))
       by true false p q = let l = ltb-true v low p in let m = ltb-false x low q in absurd (omega arith)
@@ -76,10 +76,10 @@ module _ (s : List ℕ) (at next : ℕ) where
           rw (le-ltb v bound (omega arith))
 
   road-held : (v w x y bound : ℕ) → x ≡ min v 4000000000 → y ≡ min w 4000000000 → bound ≤ 4000000000
-      → judged s at next (roadFits (numbers x y 0 0) bound) (numbers x y 0 0) ≡ judged s at next (roadFits (numbers v w 0 0) bound) (numbers v w 0 0)
+      → judged s at next (roadFits (pair x y) bound) (pair x y) ≡ judged s at next (roadFits (pair v w) bound) (pair v w)
   road-held v w x y bound e f h =
       let a = same-below v x bound e h in let b = same-below w y bound f h in
-      judged-same s at next (roadFits (numbers x y 0 0) bound) (roadFits (numbers v w 0 0) bound) _ _ (rw (a .test, b .test))
+      judged-same s at next (roadFits (pair x y) bound) (roadFits (pair v w) bound) _ _ (rw (a .test, b .test))
       (λ g. rw (a .passed (and-left _ _ g), b .passed (and-right (ltb v bound) _ g)))
 
   move-held : (v w t u x y z o q labels : ℕ)
@@ -123,7 +123,7 @@ module _ (s : List ℕ) (l : Line) (key : List ℕ) (xs : Numbers) (c : Cursor) 
   one-bad low bound e = rw (p, e)
 
   pub one-good : (low bound x n : ℕ) → bound ≤ 4000000000 → Told (first 10) x n
-      → judged s (c .at) n (within x low bound) (numbers x 0 0 0) ≡ lineOfOne s l key low bound
+      → judged s (c .at) n (within x low bound) (pair x 0) ≡ lineOfOne s l key low bound
   unfolding lineOfOne
   one-good low bound x n h a = one-held s (c .at) n (valueOf (first 10)) x low bound (a .held) h ∙ rw (p, a .is)
 
@@ -132,7 +132,7 @@ module _ (s : List ℕ) (l : Line) (key : List ℕ) (xs : Numbers) (c : Cursor) 
   road-bad bound e = rw (p, e)
 
   pub road-good : (bound x y n : ℕ) → bound ≤ 4000000000 → x ≡ min (valueOf (first 44)) 4000000000 → Told (nextNumber s (first 44) 10) y n
-      → judged s (c .at) n (roadFits (numbers x y 0 0) bound) (numbers x y 0 0) ≡ roadLine s l key bound
+      → judged s (c .at) n (roadFits (pair x y) bound) (pair x y) ≡ roadLine s l key bound
   unfolding roadLine
   road-good bound x y n h a b = road-held s (c .at) n _ _ x y bound a (b .held) h ∙ rw (p, b .is)
 
@@ -187,7 +187,7 @@ module _ (s : List ℕ) (Q : Numbers → Type 0) (l : Line) where
   closed-led g at (Value v i) true xs f = (g, f refl)
   closed-led g at (Value v i) false xs f = here at refl
 
-  low : (f : Numbers → ℕ) (bound : ℕ) → f noNumbers ≡ 0 → ((xs : Numbers) → Q xs → f xs < bound) → (r : Line) → Led s Q l r
+  low : (f : Numbers → ℕ) (bound : ℕ) → f (pair 0 0) ≡ 0 → ((xs : Numbers) → Q xs → f xs < bound) → (r : Line) → Led s Q l r
       → f (numbersOf r) ≤ bound - 1
   low f bound z h (line.Numbers xs c) g = omega (arith, h xs (g .1))
   low f bound z h (line.Fault e) g = omega (arith, z)

@@ -3,7 +3,7 @@
 -- a chain of steps: its key, then number after number, each behind the one before (`nextNumber`); once one has a bad form, so have
 -- those behind it. The line is judged by its last number: its form, and then whether its numbers are in their ranges.
 --   behind prior read                == the line behind `prior`, by its index; the fault of `prior` where it has one
---   noNumbers                        == what stands for the numbers of a fault
+--   pair x y                         == the numbers x and y
 --   badForm s at                     == the form fault of the line at index `at`
 --   judged s at next fit xs          == the line at index `at`, of good form: its numbers xs with the next cursor, or its range fault
 --   closed s at last fit xs          == the line at index `at` with the last number `last`: its form is judged before its ranges
@@ -11,7 +11,7 @@
 --   lineOfOne s prior key low bound  == a line `key=a` with a from low to below bound
 --   roadLine s prior key bound       == a line `key=a,b`, both below bound (roadFits)
 --   moveLine s prior key q labels    == a line `key=q,need,bar,r` of an automaton of q states (moveFits)
---   numbersOf l                      == the numbers of a line
+--   numbersOf l                      == the numbers of a line, 0 of a fault
 --   firstOf l                        == the first of them
 --   top                              == before the first line
 --   finish s last                    == the last line again, or a form fault of the next one where bytes follow it
@@ -34,8 +34,8 @@ abbrev pub behind : Line → (ℕ → Line) → Line
 behind (line.Fault f) read = line.Fault f
 behind (line.Numbers xs c) read = read (c .at)
 
-abbrev pub noNumbers : Numbers
-noNumbers = record { first = 0; second = 0; third = 0; fourth = 0 }
+abbrev pub pair : ℕ → ℕ → Numbers
+pair x y = record { first = x; second = y; third = 0; fourth = 0 }
 
 abbrev pub badForm : List ℕ → ℕ → Line
 badForm s at = line.Fault (Form (lineAt s at))
@@ -55,7 +55,7 @@ lineOfOne s prior key low bound =
     behind prior
     (λ at.
     let a = nextNumber s (keyAt s at key) 10 in
-    closed s at a (within (valueOf a) low bound) (record { first = valueOf a; second = 0; third = 0; fourth = 0 }))
+    closed s at a (within (valueOf a) low bound) (pair (valueOf a) 0))
 
 abbrev pub roadFits : Numbers → ℕ → Bool
 roadFits xs bound = ltb (xs .first) bound && ltb (xs .second) bound
@@ -66,7 +66,7 @@ roadLine s prior key bound =
     (λ at.
     let a = nextNumber s (keyAt s at key) 44 in
     let b = nextNumber s a 10 in
-    let xs : Numbers = record { first = valueOf a; second = valueOf b; third = 0; fourth = 0 } in
+    let xs = pair (valueOf a) (valueOf b) in
     closed s at b (roadFits xs bound) xs)
 
 abbrev pub moveFits : Numbers → ℕ → ℕ → Bool
@@ -85,13 +85,13 @@ moveLine s prior key q labels =
 
 abbrev pub numbersOf : Line → Numbers
 numbersOf (line.Numbers xs c) = xs
-numbersOf (line.Fault f) = noNumbers
+numbersOf (line.Fault f) = pair 0 0
 
 abbrev pub firstOf : Line → ℕ
 firstOf l = numbersOf l .first
 
 abbrev pub top : Line
-top = line.Numbers noNumbers (record { at = 0 })
+top = line.Numbers (pair 0 0) (record { at = 0 })
 
 unfoldable pub finish : List ℕ → Line → Line
 finish s (line.Fault f) = line.Fault f

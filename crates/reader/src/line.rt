@@ -8,7 +8,7 @@ use text::read::next_number;
 use text::read::value_of;
 ghost use mathlib.Core.Path.{_≡_};
 ghost use Prim.Native.Nat.{_≤_};
-ghost use Rattle.reader.specs.Line.{noNumbers, badForm, judged, within, lineOfOne, roadFits, roadLine, moveFits, moveLine, OneRead, RoadRead, MoveRead, numbersOf, top, finish};
+ghost use Rattle.reader.specs.Line.{pair, badForm, judged, within, lineOfOne, roadFits, roadLine, moveFits, moveLine, OneRead, RoadRead, MoveRead, numbersOf, top, finish};
 
 // Where the next line begins.
 pub struct Cursor {
@@ -28,12 +28,12 @@ pub enum Line {
     Fault(Fault),
 }
 
-fn no_numbers() -> Numbers
-    ensures { λ r. ⌜ r ≡ noNumbers ⌝ }
+fn pair(x: u32, y: u32) -> Numbers
+    ensures { λ r. ⌜ r ≡ pair x y ⌝ }
 {
     Numbers {
-        first: 0,
-        second: 0,
+        first: x,
+        second: y,
         third: 0,
         fourth: 0,
     }
@@ -78,13 +78,7 @@ pub fn line_of_one(s: &[u8], prior: Line, key: &[u8], low: u32, bound: u32) -> L
     let Number::Value(x, at) = a else {
         return bad_form(s, from);
     };
-    let xs = Numbers {
-        first: x,
-        second: 0,
-        third: 0,
-        fourth: 0,
-    };
-    judged(s, from, at, within(x, low, bound), xs)
+    judged(s, from, at, within(x, low, bound), pair(x, 0))
 }
 
 fn road_fits(xs: Numbers, bound: u32) -> bool
@@ -110,12 +104,7 @@ pub fn road_line(s: &[u8], prior: Line, key: &[u8], bound: u32) -> Line
     let Number::Value(y, at) = b else {
         return bad_form(s, from);
     };
-    let xs = Numbers {
-        first: value_of(a),
-        second: y,
-        third: 0,
-        fourth: 0,
-    };
+    let xs = pair(value_of(a), y);
     judged(s, from, at, road_fits(xs, bound), xs)
 }
 
@@ -159,13 +148,13 @@ pub fn move_line(s: &[u8], prior: Line, key: &[u8], states: u32, labels: u32) ->
     judged(s, from, at, move_fits(xs, states, labels), xs)
 }
 
-// The numbers of a line, none of a fault.
+// The numbers of a line, 0 of a fault.
 pub fn numbers_of(l: Line) -> Numbers
     ensures { λ r. ⌜ r ≡ numbersOf l ⌝ }
 {
     match l {
         Line::Numbers(xs, _) => xs,
-        Line::Fault(_) => no_numbers(),
+        Line::Fault(_) => pair(0, 0),
     }
 }
 
@@ -181,7 +170,7 @@ pub fn first_of(l: Line) -> u32
 pub fn top() -> Line
     ensures { λ r. ⌜ r ≡ top ⌝ }
 {
-    Line::Numbers(no_numbers(), Cursor { at: 0 })
+    Line::Numbers(pair(0, 0), Cursor { at: 0 })
 }
 
 // The last line again, if nothing follows it.

@@ -23,10 +23,10 @@ returns-2 c =
 
 returns-3 : tie.Need-returns-3
 returns-3 c =
-    let n = c .before .before in
+    let n = c .before .before .before in
     let a = n .before .before .before in let k = a .before in
     let ha = first-held _ _ _ _ _ (k .key-at .ensures) (a .next-number .ensures) in
-    one-is _ _ _ _ _ _ (rw (c .judged .ensures, c .before .within .ensures)
+    one-is _ _ _ _ _ _ (rw (c .judged .ensures, c .before .before .within .ensures, c .before .pair .ensures)
     (one-good _ _ _ _ _ (opened k .prior .given .1) _ _ _ _ (start k .pre)
     (held-told _ _ ha _ _ (n .before .a .given .1))))
 
@@ -43,6 +43,7 @@ line-of-one-spec =
     (λ c. search needs)
     (λ c κs. search needs)
     returns-2
+    (λ c κs. search needs)
     (λ c κs. search needs)
     (λ c κs. search needs)
     returns-3)

@@ -24,13 +24,13 @@ returns-2 c =
 
 returns-3 : tie.Need-returns-3
 returns-3 c =
-    let n = c .before .before .before in
+    let n = c .before .before .before .before in
     let b = n .before .before .before in let a = b .before in let k = a .before in
     let ha = first-held _ _ _ _ _ (k .key-at .ensures) (a .next-number .ensures) in
     let hb = next-held _ _ _ _ _ ha (b .next-number2 .ensures) in
-    road-is _ _ _ _ _ (rw (c .judged .ensures, c .before .road-fits .ensures)
+    road-is _ _ _ _ _ (rw (c .judged .ensures, c .before .road-fits .ensures, c .before .before .pair .ensures)
     (road-good _ _ _ _ _ (opened k .prior .given .1) _ _ _ _ (start k .pre)
-    (held-value _ _ _ ha (c .before .before .value-of .ensures)) (held-told _ _ hb _ _ (n .before .b .given .1))))
+    (held-value _ _ _ ha (c .before .before .before .value-of .ensures)) (held-told _ _ hb _ _ (n .before .b .given .1))))
 
 pub road-line-spec : {M : Type 1} → statement M
 road-line-spec =
@@ -46,6 +46,7 @@ road-line-spec =
     (λ c. search needs)
     (λ c κs. search needs)
     returns-2
+    (λ c κs. search needs)
     (λ c κs. search needs)
     (λ c κs. search needs)
     (λ c κs. search needs)
