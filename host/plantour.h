@@ -17,6 +17,35 @@
 **
 **     gcc host.c libmoxiltra.a
 */
+
+/*
+** The plan file: ASCII lines, each ended by byte 10, without spaces and in
+** this order.  Numbers are decimal without a leading zero; places and states
+** are counted from 0.
+**
+**     tour=1
+**     marks=M                 0 to 8
+**     places=P                1 to 128
+**     label=L                 P lines; bit m is set if the place has mark m
+**     start=S                 the place at which every tour begins
+**     roads=R                 0 to 1,024
+**     road=A,B                R lines; one-way from A to B
+**     hard=Q                  the hard rule: 1 to 16 states
+**     first=F                 its first state
+**     accept=A                bit q is set if state q accepts
+**     moves=T                 0 to 64
+**     move=q,need,bar,r       T lines, each of this form
+**     move=q,need,bar,any,r   or of this one
+**     rules=K                 0 to 8
+**     soft=Q                  K blocks, the soft rules: 1 to 8 states
+**     weight=W                1 to 4,000,000
+**     ...                     first, accept, moves and its move lines
+**
+** A move leads from state q to state r under a label that has every mark of
+** need and no mark of bar; these are bits, as in a label.  With five numbers
+** the label must also have at least one mark of any, unless any is 0: a move
+** for "kerb or ramp".  Four numbers mean an any of 0.
+*/
 #ifndef PLANTOUR_H
 #define PLANTOUR_H
 

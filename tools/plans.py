@@ -1,23 +1,28 @@
-"""Plans as the tools that write stored cases have them (paper 01, "The plan file"): automata, plan files and frames.
+"""Plans as the tools that write stored cases have them (paper 01, "The plan file"; 02, note 1): automata, plan files and frames.
 
 A plan is a dict: marks, labels, start, roads, the hard automaton, and the soft rules as pairs of automaton and weight."""
 import os
 from collections import namedtuple
 
-# moves are (from, need, bar, to)
+# moves are (from, need, bar, to) or (from, need, bar, any, to)
 Automaton = namedtuple("Automaton", "states first accept moves")
-ANY = Automaton(1, 0, 1, [(0, 0, 0, 0)])
+ALWAYS = Automaton(1, 0, 1, [(0, 0, 0, 0)])
 
 
 def again(m):
     return Automaton(2, 0, 2, [(q, need, bar, r) for q in (0, 1) for need, bar, r in ((1 << m, 0, 1), (0, 1 << m, 0))])
 
 
+def again_any(marks):
+    """Again and again a label that has one of these marks, given as bits."""
+    return Automaton(2, 0, 2, [move for q in (0, 1) for move in ((q, 0, 0, marks, 1), (q, 0, marks, 0))])
+
+
 def never(m):
     return Automaton(1, 0, 1, [(0, 0, 1 << m, 0)])
 
 
-def plan(marks=2, labels=(0, 1, 2), start=0, roads=((0, 1), (1, 0), (0, 2), (2, 0)), hard=ANY, soft=((again(0), 3), (never(1), 2))):
+def plan(marks=2, labels=(0, 1, 2), start=0, roads=((0, 1), (1, 0), (0, 2), (2, 0)), hard=ALWAYS, soft=((again(0), 3), (never(1), 2))):
     """A plan; without arguments, paper 01's plan X."""
     return dict(marks=marks, labels=labels, start=start, roads=roads, hard=hard, soft=soft)
 
@@ -26,7 +31,7 @@ def lines(p):
     """The lines of a plan's file, without their ends."""
 
     def rule(automaton):
-        moves = ["move=%d,%d,%d,%d" % move for move in automaton.moves]
+        moves = ["move=" + ",".join(map(str, move)) for move in automaton.moves]
         return [f"first={automaton.first}", f"accept={automaton.accept}", f"moves={len(moves)}"] + moves
 
     listed = ["tour=1", f"marks={p['marks']}", f"places={len(p['labels'])}"] + [f"label={x}" for x in p["labels"]]
@@ -68,9 +73,15 @@ def parsed(content):
     return plan(marks, labels, one(), many(), automaton(one()), [soft() for _ in range(one())])
 
 
+def fits(move, label):
+    """Whether the label has every mark of need, no mark of bar, and one of any, unless any is 0 or not given."""
+    _, need, bar, *any_of, _ = move
+    return label & need == need and label & bar == 0 and all(label & marks for marks in any_of if marks)
+
+
 def steps(automaton, label, q):
     """The states that an automaton may go to from state q; every move that fits counts."""
-    return {to for source, need, bar, to in automaton.moves if source == q and label & need == need and label & bar == 0}
+    return {move[-1] for move in automaton.moves if move[0] == q and fits(move, label)}
 
 
 def soft_steps(automaton, label, q):

@@ -41,7 +41,7 @@ zeros-low m (suc n) (suc k) = zeros-low m n k
 pub zeros-rest : (n : ℕ) → ZeroFrom 0 (replicate n 0)
 zeros-rest n k h = omega (arith, zeros-low 0 n k)
 
-pub column-zeros : (m n : ℕ) → Column m 0 (replicate n 0)
+column-zeros : (m n : ℕ) → Column m 0 (replicate n 0)
 column-zeros m n = record { low = zeros-low m n; rest = zeros-rest n }
 
 set-low : (m : ℕ) (xs : List ℕ) (i x : ℕ) → ((k : ℕ) → getD xs k 0 ≤ m) → x ≤ m → (k : ℕ) → getD (set xs i x) k 0 ≤ m
@@ -86,6 +86,7 @@ module _ (s : List ℕ) where
     pub from : Column (q - 1) i (b .from)
     pub need : Column (labels - 1) i (b .need)
     pub bar : Column (labels - 1) i (b .bar)
+    pub any : Column (labels - 1) i (b .any)
     pub to : Column (q - 1) i (b .to)
 
   pub moves-filled : (l : Line) (n q labels : ℕ) → MoveColumns q labels n (moveBlock s l n q labels)
@@ -96,7 +97,14 @@ module _ (s : List ℕ) where
         from = column-set _ (c .from) (t .first-low);
         need = column-set _ (c .need) (t .second-low);
         bar = column-set _ (c .bar) (t .third-low);
-        to = column-set _ (c .to) (t .fourth-low);
+        any = column-set _ (c .any) (t .fourth-low);
+        to = column-set _ (c .to) (t .fifth-low);
       })
       n _
-      (record { from = column-zeros (q - 1) 64; need = column-zeros (labels - 1) 64; bar = column-zeros (labels - 1) 64; to = column-zeros (q - 1) 64 })
+      (record {
+        from = column-zeros (q - 1) 64;
+        need = column-zeros (labels - 1) 64;
+        bar = column-zeros (labels - 1) 64;
+        any = column-zeros (labels - 1) 64;
+        to = column-zeros (q - 1) 64;
+      })

@@ -3,7 +3,7 @@
 use mathlib.Core.Path.{_≡_, refl, _∙_}
 use mathlib.Core.Bool.{true, false}
 use mathlib.Core.List.{List}
-use Prim.Native.Nat.{ℕ, zero, suc, _+_, _-_, _^_, _≤_, _<_}
+use Prim.Native.Nat.{ℕ, zero, suc, _+_, _^_, _≤_, _<_}
 use native.Mathlib.Omega.{arith}
 use native.Mathlib.Decide.{ℕ-discrete}
 use lib.ListN.{length, getD, replicate, length-set}
@@ -20,7 +20,7 @@ use Rattle.reader.specs.declared.line.Line.the-variants as line
 use Rattle.reader.specs.declared.block.SoftBlocks.{SoftBlocks}
 use Rattle.reader.proofs.Lines.{within-both, good, Led, First, one-led, road-led, move-led}
 use Rattle.reader.proofs.Sticky.{Sticky, moves-keep, soft-keeps}
-use Rattle.reader.proofs.Columns.{filled, column-zeros, column-below, set-rest, zeros-rest, moves-filled}
+use Rattle.reader.proofs.Columns.{filled, column-below, set-rest, zeros-rest, moves-filled}
 
 abbrev pub Faulty : Line → Type 0
 Faulty l = good l ≡ false
@@ -98,12 +98,12 @@ module _ (s : List ℕ) (l : Line) (q labels : ℕ) (e : good (automatonBlock s 
         from = column-below q n _ o (x .from);
         need = column-below labels n _ m (x .need);
         bar = column-below labels n _ m (x .bar);
-        any = column-below labels 0 _ m (column-zeros (labels - 1) 64);
+        any = column-below labels n _ m (x .any);
         to = column-below q n _ o (x .to);
         rest-from = x .from .rest;
         rest-need = x .need .rest;
         rest-bar = x .bar .rest;
-        rest-any = λ k h. zeros-rest 64 k (omega arith);
+        rest-any = x .any .rest;
         rest-to = x .to .rest;
       }
 

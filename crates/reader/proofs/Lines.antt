@@ -18,7 +18,7 @@ use lib.Dec.{ltb}
 use borrow.Author.Tests.{ltb-true, ltb-false, lt-ltb, le-ltb}
 use Rattle.base.proofs.Tests.{and-left, and-right}
 use Rattle.text.specs.Fault as fault
-use Rattle.text.specs.Scan.{keyAt, nextNumber, valueOf, lineAt}
+use Rattle.text.specs.Scan.{keyAt, nextNumber, elseNumber, either, valueOf, lineAt}
 use Rattle.text.specs.declared.fault.Fault.{Fault}
 use Rattle.text.specs.declared.read.Number.{Number}
 use Rattle.text.specs.declared.read.Number.the-variants.{Value, Bad}
@@ -54,8 +54,21 @@ judged-same : (s : List ℕ) (at next : ℕ) (t u : Bool) (xs ys : Numbers) → 
 judged-same s at next t true xs ys e f = rw (e, f refl)
 judged-same s at next t false xs ys e f = rw e
 
-abbrev numbers : ℕ → ℕ → ℕ → ℕ → Numbers
-numbers a b c d = record { first = a; second = b; third = c; fourth = d }
+abbrev numbers : ℕ → ℕ → ℕ → ℕ → ℕ → Numbers
+numbers a b c d e = record { first = a; second = b; third = c; fourth = d; fifth = e }
+
+move-tests : (xs : Numbers) (q labels : ℕ) → moveFits xs q labels ≡ true
+    → (ltb (xs .first) q ≡ true) × (ltb (xs .second) labels ≡ true) × (ltb (xs .third) labels ≡ true) × (ltb (xs .fourth) labels ≡ true)
+    × (ltb (xs .fifth) q ≡ true)
+move-tests xs q labels h =
+    let d = and-left _ (ltb (xs .fifth) q) h in let c = and-left _ (ltb (xs .fourth) labels) d in let b = and-left _ (ltb (xs .third) labels) c in
+    let two = ltb (xs .first) q && ltb (xs .second) labels in let three = two && ltb (xs .third) labels in (
+      and-left _ _ b,
+      and-right (ltb (xs .first) q) _ b,
+      and-right two _ c,
+      and-right three _ d,
+      and-right (three && ltb (xs .fourth) labels) _ h,
+    )
 
 module _ (s : List ℕ) (at next : ℕ) where
   one-held : (v x low bound : ℕ) → x ≡ min v 4000000000 → bound ≤ 4000000000
@@ -82,22 +95,18 @@ module _ (s : List ℕ) (at next : ℕ) where
       judged-same s at next (roadFits (pair x y) bound) (roadFits (pair v w) bound) _ _ (rw (a .test, b .test))
       (λ g. rw (a .passed (and-left _ _ g), b .passed (and-right (ltb v bound) _ g)))
 
-  move-held : (v w t u x y z o q labels : ℕ)
-      → x ≡ min v 4000000000 → y ≡ min w 4000000000 → z ≡ min t 4000000000 → o ≡ min u 4000000000 → q ≤ 4000000000 → labels ≤ 4000000000
-      → judged s at next (moveFits (numbers x y z o) q labels) (numbers x y z o) ≡ judged s at next (moveFits (numbers v w t u) q labels) (numbers v w t u)
-  move-held v w t u x y z o q labels e f g i h k =
-      let a = same-below v x q e h in let b = same-below w y labels f k in
-      let c = same-below t z labels g k in let d = same-below u o q i h in
-      judged-same s at next (moveFits (numbers x y z o) q labels) (moveFits (numbers v w t u) q labels) _ _
-      (rw (a .test, b .test, c .test, d .test))
+  move-held : (v w t u b x y z a o q labels : ℕ) → x ≡ min v 4000000000 → y ≡ min w 4000000000 → z ≡ min t 4000000000
+      → a ≡ min u 4000000000 → o ≡ min b 4000000000 → q ≤ 4000000000 → labels ≤ 4000000000
+      → judged s at next (moveFits (numbers x y z a o) q labels) (numbers x y z a o)
+      ≡ judged s at next (moveFits (numbers v w t u b) q labels) (numbers v w t u b)
+  move-held v w t u b x y z a o q labels e1 e2 e3 e4 e5 h k =
+      let s1 = same-below v x q e1 h in let s2 = same-below w y labels e2 k in let s3 = same-below t z labels e3 k in
+      let s4 = same-below u a labels e4 k in let s5 = same-below b o q e5 h in
+      judged-same s at next (moveFits (numbers x y z a o) q labels) (moveFits (numbers v w t u b) q labels) _ _
+      (rw (s1 .test, s2 .test, s3 .test, s4 .test, s5 .test))
       (λ m.
-      let m1 = and-left _ (ltb u q) m in let m2 = and-left _ (ltb t labels) m1 in
-      rw (
-        a .passed (and-left _ _ m2),
-        b .passed (and-right (ltb v q) _ m2),
-        c .passed (and-right (ltb v q && ltb w labels) _ m1),
-        d .passed (and-right (ltb v q && ltb w labels && ltb t labels) _ m),
-      ))
+      let f = move-tests (numbers v w t u b) q labels m in
+      rw (s1 .passed (f .0), s2 .passed (f .1), s3 .passed (f .2), s4 .passed (f .3), s5 .passed (f .4)))
 
 -- a line that stands behind one with a fault
 module _ (s : List ℕ) (l : Line) (key : List ℕ) (f : Fault) (p : l ≡ line.Fault f) where
@@ -136,19 +145,27 @@ module _ (s : List ℕ) (l : Line) (key : List ℕ) (xs : Numbers) (c : Cursor) 
   unfolding roadLine
   road-good bound x y n h a b = road-held s (c .at) n _ _ x y bound a (b .held) h ∙ rw (p, b .is)
 
+  -- the numbers of a move: the third, the one behind it where that is not the last, and the last
   abbrev third : Number
   third = nextNumber s (nextNumber s (first 44) 44) 44
 
-  pub move-bad : (q labels : ℕ) → nextNumber s third 10 ≡ Bad → badForm s (c .at) ≡ moveLine s l key q labels
+  abbrev any : Number
+  any = elseNumber s (nextNumber s third 10) third 44
+
+  abbrev last : Number
+  last = either (nextNumber s third 10) (nextNumber s any 10)
+
+  pub move-bad : (q labels : ℕ) → last ≡ Bad → badForm s (c .at) ≡ moveLine s l key q labels
   unfolding moveLine
   move-bad q labels e = rw (p, e)
 
-  pub move-good : (q labels x y z o n : ℕ) → q ≤ 4000000000 → labels ≤ 4000000000 → x ≡ min (valueOf (first 44)) 4000000000
-      → y ≡ min (valueOf (nextNumber s (first 44) 44)) 4000000000 → z ≡ min (valueOf third) 4000000000 → Told (nextNumber s third 10) o n
-      → judged s (c .at) n (moveFits (numbers x y z o) q labels) (numbers x y z o) ≡ moveLine s l key q labels
+  pub move-good : (q labels x y z a o n : ℕ) → q ≤ 4000000000 → labels ≤ 4000000000 → x ≡ min (valueOf (first 44)) 4000000000
+      → y ≡ min (valueOf (nextNumber s (first 44) 44)) 4000000000 → z ≡ min (valueOf third) 4000000000
+      → a ≡ min (valueOf any) 4000000000 → Told last o n
+      → judged s (c .at) n (moveFits (numbers x y z a o) q labels) (numbers x y z a o) ≡ moveLine s l key q labels
   unfolding moveLine
-  move-good q labels x y z o n h g a b d e =
-      move-held s (c .at) n _ _ _ _ x y z o q labels a b d (e .held) h g ∙ rw (p, e .is)
+  move-good q labels x y z a o n h g e1 e2 e3 e4 e5 =
+      move-held s (c .at) n _ _ _ _ _ x y z a o q labels e1 e2 e3 e4 (e5 .held) h g ∙ rw (p, e5 .is)
 
 -- what a line leads to
 abbrev pub good : Line → Bool
@@ -171,15 +188,6 @@ Road bound xs = roadFits xs bound ≡ true
 
 abbrev Move : ℕ → ℕ → Numbers → Type 0
 Move q labels xs = moveFits xs q labels ≡ true
-
-move-below : (xs : Numbers) (q labels : ℕ) → Move q labels xs → (xs .first < q) × (xs .second < labels) × (xs .third < labels) × (xs .fourth < q)
-move-below xs q labels h =
-    let c = and-left _ (ltb (xs .fourth) q) h in let b = and-left _ (ltb (xs .third) labels) c in (
-      ltb-true _ q (and-left _ _ b),
-      ltb-true _ labels (and-right (ltb (xs .first) q) _ b),
-      ltb-true _ labels (and-right (ltb (xs .first) q && ltb (xs .second) labels) _ c),
-      ltb-true _ q (and-right (ltb (xs .first) q && ltb (xs .second) labels && ltb (xs .third) labels) _ h),
-    )
 
 module _ (s : List ℕ) (Q : Numbers → Type 0) (l : Line) where
   closed-led : good l ≡ true → (at : ℕ) (n : Number) (t : Bool) (xs : Numbers) → (t ≡ true → Q xs) → Led s Q l (closed s at n t xs)
@@ -210,7 +218,8 @@ module _ (s : List ℕ) where
   move-led (line.Fault f) key q labels = before refl
   move-led (line.Numbers xs c) key q labels =
       let a = nextNumber s (keyAt s (c .at) key) 44 in
-      closed-led s (Move q labels) (line.Numbers xs c) refl (c .at) (nextNumber s (nextNumber s (nextNumber s a 44) 44) 10) _ _ (λ e. e)
+      let z = nextNumber s (nextNumber s a 44) 44 in let d = nextNumber s z 10 in
+      closed-led s (Move q labels) (line.Numbers xs c) refl (c .at) (either d (nextNumber s (elseNumber s d z 44) 10)) _ _ (λ e. e)
 
 module _ (s : List ℕ) (l : Line) (key : List ℕ) where
   pub one-is : (least bound : ℕ) (r : Line) → r ≡ lineOfOne s l key least bound → OneRead (lineOfOne s l key least bound) bound r
@@ -232,10 +241,11 @@ module _ (s : List ℕ) (l : Line) (key : List ℕ) where
       let led = subst (λ x. Led s (Move q labels) l x) (sym e) (move-led s l key q labels) in
       record {
         same = e;
-        first-low = low s (Move q labels) l (λ xs. xs .first) q refl (λ xs h. move-below xs q labels h .0) r led;
-        second-low = low s (Move q labels) l (λ xs. xs .second) labels refl (λ xs h. move-below xs q labels h .1) r led;
-        third-low = low s (Move q labels) l (λ xs. xs .third) labels refl (λ xs h. move-below xs q labels h .2) r led;
-        fourth-low = low s (Move q labels) l (λ xs. xs .fourth) q refl (λ xs h. move-below xs q labels h .3) r led;
+        first-low = low s (Move q labels) l (λ xs. xs .first) q refl (λ xs h. ltb-true _ q (move-tests xs q labels h .0)) r led;
+        second-low = low s (Move q labels) l (λ xs. xs .second) labels refl (λ xs h. ltb-true _ labels (move-tests xs q labels h .1)) r led;
+        third-low = low s (Move q labels) l (λ xs. xs .third) labels refl (λ xs h. ltb-true _ labels (move-tests xs q labels h .2)) r led;
+        fourth-low = low s (Move q labels) l (λ xs. xs .fourth) labels refl (λ xs h. ltb-true _ labels (move-tests xs q labels h .3)) r led;
+        fifth-low = low s (Move q labels) l (λ xs. xs .fifth) q refl (λ xs h. ltb-true _ q (move-tests xs q labels h .4)) r led;
       }
 
 pub byte : (f : Numbers → ℕ) (xs ys : Numbers) (bound : ℕ) → xs ≡ ys → f ys ≤ bound - 1 → bound ≤ 256 → f xs < 256

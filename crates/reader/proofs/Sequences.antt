@@ -3,7 +3,6 @@
 use mathlib.Core.Path.{_≡_}
 use mathlib.Core.List.{List}
 use Prim.Native.Nat.{ℕ, _^_}
-use lib.ListN.{replicate}
 use Rattle.reader.specs.Keys.{tourKey, marksKey, placesKey, startKey, roadsKey, firstKey, acceptKey, movesKey, softKey, weightKey}
 use Rattle.reader.specs.Line.{lineOfOne, firstOf, top}
 use Rattle.reader.specs.Blocks.{labelBlock, roadBlock, moveBlock, automatonBlock, softBlock}
@@ -22,7 +21,7 @@ module _ (s : List ℕ) (l : Line) (labels : ℕ) where
       → n ≡ firstOf count → x ≡ moveBlock s count n q labels → a ≡ firstOf first → b ≡ firstOf accept
       → _≡_ {A = AutomatonBlock} (record {
         line = x .line;
-        automaton = record { states = q; first = a; accept = b; moves = n; from = x .from; need = x .need; bar = x .bar; any = replicate 64 0; to = x .to };
+        automaton = record { states = q; first = a; accept = b; moves = n; from = x .from; need = x .need; bar = x .bar; any = x .any; to = x .to };
       }) (automatonBlock s l q labels)
   unfolding automatonBlock
   automaton-made q first sets accept count n x a b e1 e2 e3 e4 e5 e6 e7 e8 = rw (e8, e7, e6, e5, e4, e3, e2, e1)

@@ -24,8 +24,8 @@ labelsIn l b = record { line = l; labels = b }
 abbrev pub roadsIn : Line → List ℕ → List ℕ → RoadBlock
 roadsIn l a b = record { line = l; from = a; to = b }
 
-abbrev pub movesIn : Line → List ℕ → List ℕ → List ℕ → List ℕ → MoveBlock
-movesIn l a b c d = record { line = l; from = a; need = b; bar = c; to = d }
+abbrev pub movesIn : Line → List ℕ → List ℕ → List ℕ → List ℕ → List ℕ → MoveBlock
+movesIn l a b c d e = record { line = l; from = a; need = b; bar = c; any = d; to = e }
 
 abbrev pub softsIn : Line → List Automaton → List ℕ → SoftBlocks
 softsIn l a b = record { line = l; soft = a; weights = b }
@@ -49,14 +49,17 @@ module _ (s : List ℕ) (bound : ℕ) where
 
 module _ (s : List ℕ) (states labels : ℕ) where
   pub moves-start : (l : Line) (n : ℕ)
-      → moveBlock s l n states labels ≡ rest n (moveStep s states labels) 0 (movesIn l (replicate 64 0) (replicate 64 0) (replicate 64 0) (replicate 64 0))
+      → moveBlock s l n states labels ≡ rest n (moveStep s states labels) 0 (movesIn l (replicate 64 0) (replicate 64 0) (replicate 64 0) (replicate 64 0) (replicate 64 0))
   unfolding moveBlock
   moves-start l n = rest-start n (moveStep s states labels) _
 
-  pub move-step : (i : ℕ) (l r : Line) (a b c d : List ℕ) (xs : Numbers) → r ≡ moveLine s l moveKey states labels → xs ≡ numbersOf r
-      → moveStep s states labels (record { next = i; block = movesIn l a b c d })
-      ≡ record { next = i + 1; block = movesIn r (set a i (xs .first)) (set b i (xs .second)) (set c i (xs .third)) (set d i (xs .fourth)) }
-  move-step i l r a b c d xs p q = rw (q, p)
+  pub move-step : (i : ℕ) (l r : Line) (a b c d e : List ℕ) (xs : Numbers) → r ≡ moveLine s l moveKey states labels → xs ≡ numbersOf r
+      → moveStep s states labels (record { next = i; block = movesIn l a b c d e })
+      ≡ record {
+        next = i + 1;
+        block = movesIn r (set a i (xs .first)) (set b i (xs .second)) (set c i (xs .third)) (set d i (xs .fourth)) (set e i (xs .fifth));
+      }
+  move-step i l r a b c d e xs p q = rw (q, p)
 
 module _ (s : List ℕ) (labels : ℕ) where
   pub softs-start : (l : Line) (n : ℕ) (none : Automaton) → none ≡ noAutomaton

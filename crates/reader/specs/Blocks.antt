@@ -4,7 +4,7 @@
 --   labelStep, roadStep, moveStep, softStep == one line, or one soft rule, more
 --   labelBlock s prior n bound      == n lines `label=L`, each L below bound
 --   roadBlock s prior n bound       == n lines `road=A,B`, both below bound
---   moveBlock s prior n q labels    == n lines `move=q,need,bar,r` of an automaton of q states, need and bar below labels
+--   moveBlock s prior n q labels    == n move lines of an automaton of q states; need, bar and any are below labels
 --   automatonBlock s prior q labels == first, accept, moves=T and T move lines of an automaton of q states
 --   hardBlock s prior labels        == hard=Q and its automaton
 --   softBlock s prior labels        == soft=Q, weight=W and its automaton
@@ -64,14 +64,15 @@ moveStep s q labels x =
         from = set (x .block .from) (x .next) (xs .first);
         need = set (x .block .need) (x .next) (xs .second);
         bar = set (x .block .bar) (x .next) (xs .third);
-        to = set (x .block .to) (x .next) (xs .fourth);
+        any = set (x .block .any) (x .next) (xs .fourth);
+        to = set (x .block .to) (x .next) (xs .fifth);
       };
     }
 
 unfoldable pub moveBlock : List ℕ → Line → ℕ → ℕ → ℕ → MoveBlock
 moveBlock s prior n q labels =
     let zeros : List ℕ = replicate 64 0 in
-    repeat n (moveStep s q labels) (record { next = 0; block = record { line = prior; from = zeros; need = zeros; bar = zeros; to = zeros } }) .block
+    repeat n (moveStep s q labels) (record { next = 0; block = record { line = prior; from = zeros; need = zeros; bar = zeros; any = zeros; to = zeros } }) .block
 
 unfoldable pub automatonBlock : List ℕ → Line → ℕ → ℕ → AutomatonBlock
 automatonBlock s prior q labels =
@@ -89,7 +90,7 @@ automatonBlock s prior q labels =
         from = x .from;
         need = x .need;
         bar = x .bar;
-        any = replicate 64 0;
+        any = x .any;
         to = x .to;
       };
     }

@@ -10,7 +10,8 @@
 --   within x low bound               == x is at least low and below bound
 --   lineOfOne s prior key low bound  == a line `key=a` with a from low to below bound
 --   roadLine s prior key bound       == a line `key=a,b`, both below bound (roadFits)
---   moveLine s prior key q labels    == a line `key=q,need,bar,r` of an automaton of q states (moveFits)
+--   moveLine s prior key q labels    == a line `key=q,need,bar,r`, any 0, or `key=q,need,bar,any,r` of an automaton of q states (moveFits):
+--                                       the byte that ends the fourth number decides
 --   numbersOf l                      == the numbers of a line, 0 of a fault
 --   firstOf l                        == the first of them
 --   top                              == before the first line
@@ -22,7 +23,7 @@ use mathlib.Core.List.{List}
 use Prim.Native.Nat.{ℕ, _-_, _≤_}
 use lib.ListN.{length}
 use lib.Dec.{ltb}
-use Rattle.text.specs.Scan.{keyAt, nextNumber, valueOf, lineAt}
+use Rattle.text.specs.Scan.{keyAt, nextNumber, elseNumber, either, valueOf, lineAt}
 use Rattle.text.specs.declared.fault.Fault.the-variants.{Form, Range}
 use Rattle.text.specs.declared.read.Number.{Number}
 use Rattle.text.specs.declared.read.Number.the-variants.{Value, Bad}
@@ -35,7 +36,7 @@ behind (line.Fault f) read = line.Fault f
 behind (line.Numbers xs c) read = read (c .at)
 
 abbrev pub pair : ℕ → ℕ → Numbers
-pair x y = record { first = x; second = y; third = 0; fourth = 0 }
+pair x y = record { first = x; second = y; third = 0; fourth = 0; fifth = 0 }
 
 abbrev pub badForm : List ℕ → ℕ → Line
 badForm s at = line.Fault (Form (lineAt s at))
@@ -70,7 +71,8 @@ roadLine s prior key bound =
     closed s at b (roadFits xs bound) xs)
 
 abbrev pub moveFits : Numbers → ℕ → ℕ → Bool
-moveFits xs q labels = ltb (xs .first) q && ltb (xs .second) labels && ltb (xs .third) labels && ltb (xs .fourth) q
+moveFits xs q labels =
+    ltb (xs .first) q && ltb (xs .second) labels && ltb (xs .third) labels && ltb (xs .fourth) labels && ltb (xs .fifth) q
 
 unfoldable pub moveLine : List ℕ → Line → List ℕ → ℕ → ℕ → Line
 moveLine s prior key q labels =
@@ -80,8 +82,10 @@ moveLine s prior key q labels =
     let b = nextNumber s a 44 in
     let c = nextNumber s b 44 in
     let d = nextNumber s c 10 in
-    let xs : Numbers = record { first = valueOf a; second = valueOf b; third = valueOf c; fourth = valueOf d } in
-    closed s at d (moveFits xs q labels) xs)
+    let any = elseNumber s d c 44 in
+    let last = either d (nextNumber s any 10) in
+    let xs : Numbers = record { first = valueOf a; second = valueOf b; third = valueOf c; fourth = valueOf any; fifth = valueOf last } in
+    closed s at last (moveFits xs q labels) xs)
 
 abbrev pub numbersOf : Line → Numbers
 numbersOf (line.Numbers xs c) = xs
@@ -111,4 +115,5 @@ pub record MoveRead (given : Line) (q labels : ℕ) (r : Line) : Type 0 where
   pub first-low : numbersOf r .first ≤ q - 1
   pub second-low : numbersOf r .second ≤ labels - 1
   pub third-low : numbersOf r .third ≤ labels - 1
-  pub fourth-low : numbersOf r .fourth ≤ q - 1
+  pub fourth-low : numbersOf r .fourth ≤ labels - 1
+  pub fifth-low : numbersOf r .fifth ≤ q - 1

@@ -62,6 +62,7 @@ pub struct MoveBlock {
     pub from: [u8; 64],
     pub need: [u8; 64],
     pub bar: [u8; 64],
+    pub any: [u8; 64],
     pub to: [u8; 64],
 }
 
@@ -74,6 +75,7 @@ pub fn move_block(s: &[u8], prior: Line, n: usize, states: u32, labels: u32) -> 
     let mut from = [0u8; 64];
     let mut need = [0u8; 64];
     let mut bar = [0u8; 64];
+    let mut any = [0u8; 64];
     let mut to = [0u8; 64];
     let mut i = 0;
     while i < n {
@@ -82,7 +84,8 @@ pub fn move_block(s: &[u8], prior: Line, n: usize, states: u32, labels: u32) -> 
         from[i] = xs.first as u8;
         need[i] = xs.second as u8;
         bar[i] = xs.third as u8;
-        to[i] = xs.fourth as u8;
+        any[i] = xs.fourth as u8;
+        to[i] = xs.fifth as u8;
         i += 1;
     }
     MoveBlock {
@@ -90,6 +93,7 @@ pub fn move_block(s: &[u8], prior: Line, n: usize, states: u32, labels: u32) -> 
         from,
         need,
         bar,
+        any,
         to,
     }
 }
@@ -129,7 +133,7 @@ pub fn automaton_block(s: &[u8], prior: Line, q: u32, labels: u32) -> AutomatonB
     let from = x.from;
     let need = x.need;
     let bar = x.bar;
-    let any = [0u8; 64];
+    let any = x.any;
     let to = x.to;
     let automaton = Automaton {
         states: q,

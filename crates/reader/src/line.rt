@@ -2,6 +2,8 @@
 //! line has a fault, every later one is that fault again, so a sequence of lines has no branch.
 use text::fault::Fault;
 use text::read::Number;
+use text::read::either;
+use text::read::else_number;
 use text::read::key_at;
 use text::read::line_at;
 use text::read::next_number;
@@ -21,6 +23,7 @@ pub struct Numbers {
     pub second: u32,
     pub third: u32,
     pub fourth: u32,
+    pub fifth: u32,
 }
 
 pub enum Line {
@@ -36,6 +39,7 @@ fn pair(x: u32, y: u32) -> Numbers
         second: y,
         third: 0,
         fourth: 0,
+        fifth: 0,
     }
 }
 
@@ -120,10 +124,13 @@ fn move_fits(xs: Numbers, states: u32, labels: u32) -> bool
     if labels <= xs.third {
         return false;
     }
-    xs.fourth < states
+    if labels <= xs.fourth {
+        return false;
+    }
+    xs.fifth < states
 }
 
-// A line `key=q,need,bar,r`: q and r are below `states`, need and bar below `labels`.
+// A line `key=q,need,bar,r` or `key=q,need,bar,any,r`: q and r are below `states`, the others below `labels`.
 pub fn move_line(s: &[u8], prior: Line, key: &[u8], states: u32, labels: u32) -> Line
     requires { ⌜ (states ≤ 4000000000) × (labels ≤ 4000000000) ⌝ }
     ensures { λ r. ⌜ MoveRead (moveLine (now (s .entry)) prior (now (key .entry)) states labels) states labels r ⌝ }
@@ -135,7 +142,9 @@ pub fn move_line(s: &[u8], prior: Line, key: &[u8], states: u32, labels: u32) ->
     let a = next_number(s, key_at(s, from, key), b',');
     let b = next_number(s, a, b',');
     let c = next_number(s, b, b',');
-    let last = next_number(s, c, b'\n');
+    let d = next_number(s, c, b'\n');
+    let any = else_number(s, d, c, b',');
+    let last = either(d, next_number(s, any, b'\n'));
     let Number::Value(r, at) = last else {
         return bad_form(s, from);
     };
@@ -143,7 +152,8 @@ pub fn move_line(s: &[u8], prior: Line, key: &[u8], states: u32, labels: u32) ->
         first: value_of(a),
         second: value_of(b),
         third: value_of(c),
-        fourth: r,
+        fourth: value_of(any),
+        fifth: r,
     };
     judged(s, from, at, move_fits(xs, states, labels), xs)
 }

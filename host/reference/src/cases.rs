@@ -2,11 +2,12 @@
 //! is fixed by its number alone.
 
 use crate::damage::{damage, every_damage, Harmed};
-use crate::figures::{figures, x};
+use crate::figures::{figures, soft, x};
+use crate::guards::{either, with_any, ALIKE, ALL, SAME};
 use crate::maps::{all_roads, chance_roads, labels, places_within};
-use crate::plan::{Plan, Soft, MAX_PLACES, MAX_PLAN_BYTES, MAX_SIZE};
+use crate::plan::{Automaton, Plan, Soft, MAX_PLACES, MAX_PLAN_BYTES, MAX_SIZE};
 use crate::random::Random;
-use crate::rules::{again, always, any, never, once, soft_rules};
+use crate::rules::{again, always, go, go_any, never, once, soft_rules, some_rule};
 use crate::shapes::{large, Shape, SHAPES};
 
 /// A file to plan, bytes that lie behind it in memory but are not part of it,
@@ -56,20 +57,43 @@ pub fn limit_cases() -> Vec<Case> {
     cases
 }
 
-/// Plan X after each harm of some kinds.
+/// Plan X and its like with lines of five numbers after each harm of some kinds.
 pub fn harmed_cases() -> Vec<Case> {
-    let all = every_damage(x().text().as_bytes()).into_iter();
-    all.map(harmed).collect()
+    let of = |plan: Plan, name| {
+        let all = every_damage(plan.text().as_bytes()).into_iter();
+        all.map(move |harm| harmed(name, harm))
+    };
+    of(x(), "plan X")
+        .chain(of(x_with_any(), "plan X with any"))
+        .collect()
+}
+
+/// Plan X, its first rule asking for either mark again, the others spelled
+/// with five numbers.
+pub fn x_with_any() -> Plan {
+    let never_1 = Automaton {
+        moves: vec![go_any(0, 0, 2, 1, 0), go(0, 0, 3, 0)],
+        ..never(1)
+    };
+    Plan {
+        hard: Automaton {
+            moves: vec![go_any(0, 0, 0, 0, 0)],
+            ..always()
+        },
+        soft: vec![soft(3, either(&again(0), 1, 2)), soft(2, never_1)],
+        ..x()
+    }
 }
 
 /// The case with this number, and the source of the further chances in it.
 pub fn case(number: u64) -> (Case, Random) {
-    let mut random = Random::new(number.wrapping_mul(0x5851_f42d_4c95_7f2d).wrapping_add(1));
+    let mut source = Random::new(number.wrapping_mul(0x5851_f42d_4c95_7f2d).wrapping_add(1));
+    let random = &mut source;
     let case = match number % 16 {
-        0..=4 => intact("tiny", tiny(&mut random)),
-        5 => intact("tied", tied(&mut random)),
-        6..=8 => intact("small", small(&mut random)),
-        9..=13 => damaged(&mut random),
+        0..=4 => intact("tiny", tiny(random)),
+        5 => intact("tied", tied(random)),
+        6..=8 => intact("small", small(random)),
+        9..=13 => damaged(random),
         14 => {
             // All shapes in turn, once as large as can be, once smaller.
             let turn = (number / 16) as usize;
@@ -78,21 +102,22 @@ pub fn case(number: u64) -> (Case, Random) {
                 0 => MAX_SIZE,
                 _ => random.between(64, MAX_SIZE as usize) as u64,
             };
-            intact(shape.name(), large(shape, size, &mut random))
+            let plan = large(shape, size, random);
+            intact(shape.name(), with_any(random, plan, ALIKE))
         }
-        _ => intact("oversized", oversized(&mut random)),
+        _ => intact("oversized", oversized(random)),
     };
-    (case, random)
+    (case, source)
 }
 
 fn intact(kind: &str, plan: Plan) -> Case {
     Case::new(kind, plan.text().into_bytes())
 }
 
-fn harmed((kind, file, behind): Harmed) -> Case {
+fn harmed(what: &str, (kind, file, behind): Harmed) -> Case {
     Case {
         behind,
-        ..Case::new(&format!("damaged, {kind}"), file)
+        ..Case::new(&format!("{what}, {kind}"), file)
     }
 }
 
@@ -102,7 +127,7 @@ fn damaged(random: &mut Random) -> Case {
     } else {
         small(random)
     };
-    harmed(damage(plan.text().as_bytes(), random))
+    harmed("damaged", damage(plan.text().as_bytes(), random))
 }
 
 /// A plan small enough to try all its short tours.
@@ -126,18 +151,19 @@ pub fn tiny(random: &mut Random) -> Plan {
     let hard = if random.once_in(3) {
         always()
     } else {
-        any(random, 3, marks)
+        some_rule(random, 3, marks)
     };
     let count = random.below(4);
     let soft = soft_rules(random, count, 2, marks);
-    Plan {
+    let plan = Plan {
         marks,
         labels,
         start: random.below(places) as u8,
         roads,
         hard,
         soft,
-    }
+    };
+    with_any(random, plan, ALL)
 }
 
 /// A tiny plan whose soft rules exclude each other at equal weight, or one
@@ -165,16 +191,17 @@ pub fn tied(random: &mut Random) -> Plan {
     let hard = if random.once_in(2) {
         always()
     } else {
-        any(random, 2, 2)
+        some_rule(random, 2, 2)
     };
-    Plan {
+    let plan = Plan {
         marks: 2,
         labels,
         start,
         roads,
         hard,
         soft: rules.into_iter().map(soft).collect(),
-    }
+    };
+    with_any(random, plan, SAME)
 }
 
 /// A plan of some hundred nodes.
@@ -183,7 +210,7 @@ pub fn small(random: &mut Random) -> Plan {
     let hard = if random.once_in(3) {
         always()
     } else {
-        any(random, 5, marks)
+        some_rule(random, 5, marks)
     };
     let count = random.below(5);
     let soft = soft_rules(random, count, 4, marks);
@@ -192,14 +219,15 @@ pub fn small(random: &mut Random) -> Plan {
     let each = random.between(1, 5);
     let roads = chance_roads(random, places, each * places);
     let start = random.below(places) as u8;
-    Plan {
+    let plan = Plan {
         marks,
         labels: labels(random, places, marks),
         start,
         roads,
         hard,
         soft,
-    }
+    };
+    with_any(random, plan, ALL)
 }
 
 /// A plan with N above the bound, by a little or by much.

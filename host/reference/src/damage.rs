@@ -11,8 +11,9 @@ pub type Harmed = (&'static str, Vec<u8>, Vec<u8>);
 const BEHIND: &[u8] = b"0,0\nmove=0,0,0,0\n";
 
 /// All that one harm of some kinds makes of the file: a cut at each byte, each
-/// bit flipped, each line dropped, each doubled, each two swapped, and each
-/// number raised by what a machine word loses, or very long.
+/// bit flipped, each line dropped, each doubled, each two swapped, each number
+/// raised by what a machine word loses, or very long, and each move line with
+/// other numbers.
 pub fn every_damage(text: &[u8]) -> Vec<Harmed> {
     let mut all = Vec::new();
     for at in 0..text.len() {
@@ -49,6 +50,13 @@ pub fn every_damage(text: &[u8]) -> Vec<Harmed> {
         }
         add("number very long", with("9".repeat(300)));
     }
+    for (i, line) in whole.iter().enumerate() {
+        for (kind, other) in other_moves(line) {
+            let mut lines = whole.clone();
+            lines[i] = other;
+            add(kind, lines.concat());
+        }
+    }
     all
 }
 
@@ -57,7 +65,7 @@ pub fn damage(text: &[u8], random: &mut Random) -> Harmed {
     let mut file = text.to_vec();
     let mut behind = BEHIND.to_vec();
     let at = random.below(file.len());
-    let kind = match random.below(20) {
+    let kind = match random.below(24) {
         0 => {
             file[at] ^= 1 << random.below(8);
             "bit flipped"
@@ -85,7 +93,8 @@ pub fn damage(text: &[u8], random: &mut Random) -> Harmed {
         }
         6..=10 => harm_lines(&mut file, random),
         11..=15 => harm_number(&mut file, random),
-        16 => {
+        16..=19 => harm_move(&mut file, random),
+        20 => {
             let with_return = |&byte: &u8| {
                 if byte == b'\n' {
                     vec![b'\r', b'\n']
@@ -96,12 +105,12 @@ pub fn damage(text: &[u8], random: &mut Random) -> Harmed {
             file = file.iter().flat_map(with_return).collect();
             "carriage returns"
         }
-        17 => {
+        21 => {
             let tails = ["\n", "0", "\0", "soft=1\n", "move=0,0,0,0\n"];
             file.extend(random.pick(&tails).bytes());
             "bytes behind the last line"
         }
-        18 => {
+        22 => {
             // Just within, just beyond and well beyond the length.
             let length = *random.pick(&[
                 MAX_PLAN_BYTES - 1,
@@ -145,6 +154,82 @@ fn value(number: &[u8]) -> u64 {
     number
         .iter()
         .fold(0, |n, &byte| n * 10 + (byte - b'0') as u64)
+}
+
+/// Puts another line in the place of a move line, or of a line by chance if
+/// there is none.
+fn harm_move(file: &mut Vec<u8>, random: &mut Random) -> &'static str {
+    let mut lines = lines(file);
+    let moves: Vec<usize> = (0..lines.len())
+        .filter(|&i| lines[i].starts_with(MOVE))
+        .collect();
+    if moves.is_empty() {
+        return harm_lines(file, random);
+    }
+    let at = *random.pick(&moves);
+    let (kind, other) = random.pick(&other_moves(&lines[at])).clone();
+    lines[at] = other;
+    *file = lines.concat();
+    kind
+}
+
+const MOVE: &[u8] = b"move=";
+
+/// What may stand in the place of a move line: other counts of numbers, an any
+/// about the ends of its range, and faults of form and of range in one line.
+/// For any other line there is nothing.
+fn other_moves(line: &[u8]) -> Vec<(&'static str, Vec<u8>)> {
+    let text = line
+        .strip_prefix(MOVE)
+        .and_then(|text| text.strip_suffix(b"\n"));
+    let text = text.and_then(|text| std::str::from_utf8(text).ok());
+    let numbers: Vec<&str> = text.map_or(Vec::new(), |text| text.split(',').collect());
+    let (q, need, bar, r) = match numbers[..] {
+        [q, need, bar, r] | [q, need, bar, _, r] => (q, need, bar, r),
+        _ => return Vec::new(),
+    };
+    let five = |any: &str| format!("{q},{need},{bar},{any},{r}");
+    let ends = (1..=8).flat_map(|marks| [(1 << marks) - 1, 1 << marks]);
+    let beyond = ["257", "65536", "4294967296", "18446744073709551616"];
+    let mut all = vec![
+        ("move of three numbers", format!("{q},{need},{bar}")),
+        ("move of three numbers", format!("{q},{need},{r}")),
+        ("move of four numbers", format!("{q},{need},{bar},{r}")),
+        ("any 0", five("0")),
+        ("any like need", five(need)),
+        ("any like bar", five(bar)),
+        ("move of six numbers", format!("{},0", five("0"))),
+        ("move of six numbers", format!("{},{r}", five(need))),
+        ("move of seven numbers", format!("{},0,0", five("0"))),
+        ("move of seven numbers", format!("{},{bar},{r}", five(need))),
+        ("any of no digit", five("")),
+        ("any with a leading zero", five("00")),
+        ("comma behind a move", format!("{q},{need},{bar},{r},")),
+        ("comma behind a move", format!("{},", five("0"))),
+        (
+            "last of five out of range",
+            format!("{q},{need},{bar},0,16"),
+        ),
+    ];
+    all.extend(ends.map(|any: u32| ("any at an end", five(&any.to_string()))));
+    all.extend(beyond.map(|any| ("any out of range", five(any))));
+    for wrong in ["256", "4294967296"] {
+        let form = [
+            format!("{wrong},{need},{bar}"),
+            format!("{wrong},{need},{bar},{r},"),
+            format!("{wrong},{need},{bar},0,{r},0"),
+            format!("{wrong},{need},{bar},0,0{r}"),
+            format!("{q},{need},{bar},{wrong},"),
+            format!("{q},{need},{bar},{wrong},x"),
+            format!("{q},{need},{bar},{wrong},{r},0"),
+            format!("{q},{need},{bar},{wrong},{r},0,0"),
+            format!("{q},{need},{bar},0,{wrong}x"),
+        ];
+        all.extend(form.map(|line| ("move of no form, out of range", line)));
+    }
+    all.into_iter()
+        .map(|(kind, numbers)| (kind, [MOVE, numbers.as_bytes(), b"\n"].concat()))
+        .collect()
 }
 
 fn harm_lines(file: &mut Vec<u8>, random: &mut Random) -> &'static str {

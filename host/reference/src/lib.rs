@@ -1,4 +1,5 @@
-//! Paper 01 a second time, in plain Rust, to hold against the proved planner.
+//! Paper 01 with the notes of 02, a second time, in plain Rust, to hold against
+//! the proved planner.
 //!
 //! | module | subject |
 //! |---|---|
@@ -13,6 +14,7 @@
 //! | `brute` | the best of all short tours, and of some chance ones |
 //! | `random` | a small source of chance with a fixed seed |
 //! | `rules`, `maps`, `shapes` | automata, roads and large plans to generate |
+//! | `guards` | their move lines of five numbers |
 //! | `damage` | faulty files, made from good ones |
 //! | `cases` | files to plan: fixed ones, and generated ones by their number |
 //! | `figures` | the cases that 01 sets down with their answers |
@@ -28,6 +30,7 @@ pub mod components;
 pub mod damage;
 pub mod entry;
 pub mod figures;
+pub mod guards;
 pub mod harness;
 pub mod library;
 pub mod maps;

@@ -13,18 +13,23 @@ pub const MAX_RULES: u64 = 8;
 pub const MAX_WEIGHT: u64 = 4_000_000;
 pub const MAX_SIZE: u64 = 2_048;
 
-/// One line `move=q,need,bar,r`.
+/// One line `move=q,need,bar,r`, or `move=q,need,bar,any,r` (02, note 1).
 #[derive(Clone, Copy, Debug, PartialEq, Eq)]
 pub struct Move {
     pub from: u8,
     pub need: u8,
     pub bar: u8,
+    /// Nothing for a line of four numbers, which means the same as 0.
+    pub any: Option<u8>,
     pub to: u8,
 }
 
 impl Move {
+    /// Whether the move may be taken under this label. Whoever asks that asks
+    /// here.
     pub fn fits(&self, label: u8) -> bool {
-        label & self.need == self.need && label & self.bar == 0
+        let any = self.any.unwrap_or(0);
+        label & self.need == self.need && label & self.bar == 0 && (any == 0 || label & any != 0)
     }
 }
 
@@ -44,10 +49,14 @@ impl Automaton {
 
     /// Whether some state has moves to two states under one label.
     pub fn chooses(&self) -> bool {
-        let both = |a: &Move, b: &Move| (a.need | b.need) & (a.bar | b.bar) == 0;
-        let differ = |a: &Move, b: &Move| a.from == b.from && a.to != b.to;
-        let moves = || self.moves.iter();
-        moves().any(|a| moves().any(|b| differ(a, b) && both(a, b)))
+        (0..=u8::MAX).any(|label| {
+            let mut target = [None; MAX_HARD_STATES as usize];
+            let mut fitting = self.moves.iter().filter(|m| m.fits(label));
+            fitting.any(|m| {
+                let earlier = target[m.from as usize].replace(m.to);
+                earlier.is_some_and(|to| to != m.to)
+            })
+        })
     }
 }
 
@@ -69,6 +78,25 @@ pub struct Plan {
 }
 
 impl Plan {
+    /// The hard automaton, then the soft ones.
+    pub fn automata(&self) -> impl Iterator<Item = &Automaton> {
+        [&self.hard]
+            .into_iter()
+            .chain(self.soft.iter().map(|soft| &soft.rule))
+    }
+
+    pub fn automata_mut(&mut self) -> impl Iterator<Item = &mut Automaton> {
+        [&mut self.hard]
+            .into_iter()
+            .chain(self.soft.iter_mut().map(|soft| &mut soft.rule))
+    }
+
+    /// How many of the move lines have five numbers.
+    pub fn fives(&self) -> usize {
+        let moves = self.automata().flat_map(|rule| &rule.moves);
+        moves.filter(|m| m.any.is_some()).count()
+    }
+
     /// N: the places times the hard states times, for each soft rule, its
     /// states and the ditch.
     pub fn size(&self) -> u64 {
@@ -137,11 +165,14 @@ fn put_body(text: &mut String, rule: &Automaton) {
     put(text, "accept", &[rule.accept as u32]);
     put(text, "moves", &[rule.moves.len() as u32]);
     for m in &rule.moves {
-        put(
-            text,
-            "move",
-            &[m.from as u32, m.need as u32, m.bar as u32, m.to as u32],
-        );
+        let guard = [m.from, m.need, m.bar];
+        let values: Vec<u32> = guard
+            .into_iter()
+            .chain(m.any)
+            .chain([m.to])
+            .map(u32::from)
+            .collect();
+        put(text, "move", &values);
     }
 }
 

@@ -3,6 +3,8 @@
 use crate::plan::*;
 use std::ops::RangeInclusive;
 
+type Range = RangeInclusive<u64>;
+
 /// Why a plan is turned away; a line is counted from 1.
 #[derive(Clone, Copy, Debug, PartialEq, Eq)]
 pub enum Refusal {
@@ -64,8 +66,9 @@ fn read_plan(lines: &mut Lines) -> Result<Plan, Refusal> {
     let count = lines.one("roads", 0..=MAX_ROADS)?;
     let mut roads = Vec::new();
     for _ in 0..count {
-        let [from, to] = lines.take("road", [0..=places - 1, 0..=places - 1])?;
-        roads.push((from as u8, to as u8));
+        let place = 0..=places - 1;
+        let ends = lines.take("road", &[&[&place, &place]])?;
+        roads.push((ends[0] as u8, ends[1] as u8));
     }
     let states = lines.one("hard", 1..=MAX_HARD_STATES)?;
     let hard = read_body(lines, states, last_label)?;
@@ -96,25 +99,34 @@ fn read_body(lines: &mut Lines, states: u64, last_label: u64) -> Result<Automato
     let count = lines.one("moves", 0..=MAX_MOVES)?;
     let mut moves = Vec::new();
     for _ in 0..count {
-        let ranges = [
-            0..=states - 1,
-            0..=last_label,
-            0..=last_label,
-            0..=states - 1,
-        ];
-        let [from, need, bar, to] = lines.take("move", ranges)?.map(|value| value as u8);
-        moves.push(Move {
-            from,
-            need,
-            bar,
-            to,
-        });
+        moves.push(read_move(lines, 0..=states - 1, 0..=last_label)?);
     }
     Ok(Automaton {
         states: states as u8,
         first: first as u8,
         accept: accept as u16,
         moves,
+    })
+}
+
+/// A line of four numbers, or of five with any before the last.
+fn read_move(lines: &mut Lines, state: Range, label: Range) -> Result<Move, Refusal> {
+    let four = [&state, &label, &label, &state];
+    let five = [&state, &label, &label, &label, &state];
+    let values = lines.take("move", &[&four, &five])?;
+    let values: Vec<u8> = values.into_iter().map(|value| value as u8).collect();
+    let (from, need, bar) = (values[0], values[1], values[2]);
+    let (any, to) = match values[3..] {
+        [to] => (None, to),
+        [any, to] => (Some(any), to),
+        _ => unreachable!("a line of four or five numbers"),
+    };
+    Ok(Move {
+        from,
+        need,
+        bar,
+        any,
+        to,
     })
 }
 
@@ -125,25 +137,24 @@ struct Lines<'a> {
 }
 
 impl Lines<'_> {
-    fn one(&mut self, key: &str, range: RangeInclusive<u64>) -> Result<u64, Refusal> {
-        self.take(key, [range]).map(|[value]| value)
+    fn one(&mut self, key: &str, range: Range) -> Result<u64, Refusal> {
+        self.take(key, &[&[&range]]).map(|values| values[0])
     }
 
-    /// Takes one line with this key and one value for each range. The form of
-    /// the whole line is judged before any range.
-    fn take<const COUNT: usize>(
-        &mut self,
-        key: &str,
-        ranges: [RangeInclusive<u64>; COUNT],
-    ) -> Result<[u64; COUNT], Refusal> {
+    /// Takes one line with this key that has one of these forms: as many values
+    /// as the form has ranges. The form of the whole line is judged before any
+    /// range, and how many values there are tells which form it is.
+    fn take(&mut self, key: &str, forms: &[&[&Range]]) -> Result<Vec<u64>, Refusal> {
         self.done += 1;
         let line = self.done;
         let length = self.rest.iter().position(|&byte| byte == b'\n');
         let length = length.ok_or(Refusal::Form { line })?;
         let values = values(&self.rest[..length], key).ok_or(Refusal::Form { line })?;
+        let ranges = forms.iter().find(|form| form.len() == values.len());
+        let ranges = ranges.ok_or(Refusal::Form { line })?;
         if !values
             .iter()
-            .zip(&ranges)
+            .zip(*ranges)
             .all(|(value, range)| range.contains(value))
         {
             return Err(Refusal::Range { line });
@@ -164,12 +175,11 @@ impl Lines<'_> {
     }
 }
 
-/// The values of a line of the form `key=value,value`, if it has that form
-/// and just so many values.
-fn values<const COUNT: usize>(line: &[u8], key: &str) -> Option<[u64; COUNT]> {
+/// The values of a line of the form `key=value,value`, if it has that form,
+/// with however many values.
+fn values(line: &[u8], key: &str) -> Option<Vec<u64>> {
     let text = line.strip_prefix(key.as_bytes())?.strip_prefix(b"=")?;
-    let values: Option<Vec<u64>> = text.split(|&byte| byte == b',').map(number).collect();
-    values?.try_into().ok()
+    text.split(|&byte| byte == b',').map(number).collect()
 }
 
 /// A decimal number without a leading zero. One with more digits than fit

@@ -9,7 +9,16 @@ pub fn go(from: u8, need: u8, bar: u8, to: u8) -> Move {
         from,
         need,
         bar,
+        any: None,
         to,
+    }
+}
+
+/// The same by a line of five numbers: one of the marks of `any` is asked for.
+pub fn go_any(from: u8, need: u8, bar: u8, any: u8, to: u8) -> Move {
+    Move {
+        any: Some(any),
+        ..go(from, need, bar, to)
     }
 }
 
@@ -121,7 +130,7 @@ pub fn chance(random: &mut Random, states: u8, marks: u8, moves: usize) -> Autom
 }
 
 /// One of the above, of at most `states` states.
-pub fn any(random: &mut Random, states: u8, marks: u8) -> Automaton {
+pub fn some_rule(random: &mut Random, states: u8, marks: u8) -> Automaton {
     let most = random.between(1, states as usize) as u8;
     if marks == 0 || random.once_in(3) {
         let moves = random.below(3 * most as usize + 3);
@@ -150,7 +159,9 @@ pub fn any(random: &mut Random, states: u8, marks: u8) -> Automaton {
 
 /// So many soft rules of at most `states` states.
 pub fn soft_rules(random: &mut Random, count: usize, states: u8, marks: u8) -> Vec<Soft> {
-    let rules = (0..count).map(|_| any(random, states, marks)).collect();
+    let rules = (0..count)
+        .map(|_| some_rule(random, states, marks))
+        .collect();
     weighed(random, rules)
 }
 

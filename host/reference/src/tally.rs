@@ -14,8 +14,10 @@ pub struct Tally {
     /// Calls by the number returned, and cases with such a call.
     pub calls: [usize; 8],
     pub cases: [usize; 8],
-    /// Plans with a rule that may choose between moves.
+    /// Plans with a rule that may choose between moves, and plans with a move
+    /// line of five numbers.
     pub choices: usize,
+    pub fives: usize,
     /// Plans near the bound, by their kind.
     pub near: BTreeMap<String, usize>,
     /// Offsets of upcoming places that were looked at; tours followed step by
@@ -45,9 +47,11 @@ impl Tally {
     }
 
     pub fn plan(&mut self, kind: &str, plan: &Plan) {
-        let rules = plan.soft.iter().map(|soft| &soft.rule);
-        if rules.chain([&plan.hard]).any(|rule| rule.chooses()) {
+        if plan.automata().any(|rule| rule.chooses()) {
             self.choices += 1;
+        }
+        if plan.fives() > 0 {
+            self.fives += 1;
         }
         if plan.size() >= NEAR {
             *self.near.entry(kind.into()).or_default() += 1;
@@ -63,6 +67,7 @@ impl Tally {
         });
         let others = [
             ("a rule with a choice".into(), self.choices),
+            ("a move line of five numbers".into(), self.fives),
             ("a tie".into(), self.tied),
             ("a plan settled by its short tours".into(), self.settled),
             ("a tour with a run-in".into(), self.followed[0]),
@@ -87,7 +92,11 @@ impl fmt::Display for Tally {
         row("number", [0, 1, 2, 3, 4, 5, 6, 7])?;
         row("cases", self.cases)?;
         row("calls", self.calls)?;
-        writeln!(f, "plans with a choice of moves: {}", self.choices)?;
+        writeln!(
+            f,
+            "plans with a choice of moves: {}; with a move line of five numbers: {}",
+            self.choices, self.fives
+        )?;
         let near: Vec<String> = self
             .near
             .iter()

@@ -5,9 +5,9 @@ use reference::cases::case;
 use reference::entry::{self, Block};
 use reference::harness::check;
 use reference::library::{Library, REFERENCE};
-use reference::plan::{Automaton, Plan};
+use reference::plan::{Automaton, Move, Plan};
 use reference::planner::best_tour;
-use reference::reader::read;
+use reference::reader::{read, Refusal};
 use reference::serving::check_offsets;
 use reference::tally::Tally;
 use reference::tour::judge;
@@ -177,6 +177,132 @@ fault!(takes_the_first_move_only, |file, answer, run_in, cycle| {
         other
     })
 });
+
+/// Plans with other soft moves in the place of each; a hard rule in other
+/// words would be found out by its tours at once.
+fn soft_moves_instead(
+    file: &[u8],
+    answer: &mut [u8],
+    run_in: &mut [u8],
+    cycle: &mut [u8],
+    other: impl Fn(&Automaton, Move) -> Option<Move>,
+) -> u32 {
+    plan_instead(file, answer, run_in, cycle, |plan| {
+        let mut changed = plan.clone();
+        for soft in &mut changed.soft {
+            let rule = soft.rule.clone();
+            let moves = rule.moves.iter();
+            soft.rule.moves = moves.filter_map(|&m| other(&rule, m)).collect();
+        }
+        changed
+    })
+}
+
+fault!(overlooks_any, |file, answer, run_in, cycle| {
+    soft_moves_instead(file, answer, run_in, cycle, |_, m| {
+        Some(Move { any: None, ..m })
+    })
+});
+
+fault!(asks_for_all_of_any, |file, answer, run_in, cycle| {
+    soft_moves_instead(file, answer, run_in, cycle, |_, m| {
+        let need = m.need | m.any.unwrap_or(0);
+        Some(Move { need, ..m })
+    })
+});
+
+fault!(shuts_a_move_with_any_0, |file, answer, run_in, cycle| {
+    soft_moves_instead(file, answer, run_in, cycle, |_, m| {
+        (m.any != Some(0)).then_some(m)
+    })
+});
+
+fault!(takes_any_in_place_of_need, |file, answer, run_in, cycle| {
+    soft_moves_instead(file, answer, run_in, cycle, |_, m| {
+        let need = m.any.map_or(m.need, |_| 0);
+        Some(Move { need, ..m })
+    })
+});
+
+fault!(
+    reads_any_behind_the_target,
+    |file, answer, run_in, cycle| {
+        soft_moves_instead(file, answer, run_in, cycle, |rule, m| match m.any {
+            Some(any) if any < rule.states => Some(Move {
+                any: Some(m.to),
+                to: any,
+                ..m
+            }),
+            _ => Some(m),
+        })
+    }
+);
+
+/// The file with its move lines changed, each given as its numbers' texts.
+fn mended(file: &[u8], change: impl Fn(&mut Vec<&[u8]>)) -> Vec<u8> {
+    let mut lines: Vec<Vec<u8>> = file.split(|&b| b == b'\n').map(<[u8]>::to_vec).collect();
+    for line in &mut lines {
+        if let Some(text) = line.strip_prefix(b"move=") {
+            let mut numbers: Vec<&[u8]> = text.split(|&byte| byte == b',').collect();
+            change(&mut numbers);
+            *line = [b"move=", &numbers.join(&b',')[..]].concat();
+        }
+    }
+    lines.join(&b'\n')
+}
+
+fault!(refuses_five_numbers, |file, answer, run_in, cycle| {
+    let file = mended(file, |numbers| {
+        if numbers.len() == 5 {
+            numbers.push(b"0");
+        }
+    });
+    entry::plan_tour(&file, answer, run_in, cycle)
+});
+
+fault!(reads_six_numbers, |file, answer, run_in, cycle| {
+    let file = mended(file, |numbers| {
+        if numbers.len() == 6 {
+            numbers.pop();
+        }
+    });
+    entry::plan_tour(&file, answer, run_in, cycle)
+});
+
+fault!(reads_three_numbers, |file, answer, run_in, cycle| {
+    let file = mended(file, |numbers| {
+        if numbers.len() == 3 {
+            numbers.push(b"0");
+        }
+    });
+    entry::plan_tour(&file, answer, run_in, cycle)
+});
+
+fault!(reads_any_of_any_size, |file, answer, run_in, cycle| {
+    let file = mended(file, |numbers| {
+        if numbers.len() == 5 && numbers[3].len() > 3 {
+            numbers[3] = b"0";
+        }
+    });
+    entry::plan_tour(&file, answer, run_in, cycle)
+});
+
+fault!(
+    judges_ranges_of_a_move_before_its_form,
+    |file, answer, run_in, cycle| {
+        let number = entry::plan_tour(file, answer, run_in, cycle);
+        let good = |number: &&&[u8]| number.iter().all(u8::is_ascii_digit);
+        let cut = mended(file, |numbers| {
+            let count = numbers.iter().take_while(good).count();
+            numbers.truncate(count.min(3));
+            numbers.resize(4, b"0");
+        });
+        match (number, read(&cut)) {
+            (2, Err(Refusal::Range { .. })) => entry::plan_tour(&cut, answer, run_in, cycle),
+            _ => number,
+        }
+    }
+);
 
 fault!(breaks_ties_the_other_way, |file, answer, run_in, cycle| {
     plan_instead(file, answer, run_in, cycle, |plan| {

@@ -4,7 +4,7 @@
 //!
 //! First come the figures of 01, where upcoming places begin for some hundred
 //! thousand lengths and steps, files with buffers of every length about the
-//! limits, and one plan harmed in every way of some kinds; then cases in the
+//! limits, and two plans harmed in every way of some kinds; then cases in the
 //! order of their numbers, from CASE (0 if not given) on, until S seconds (20)
 //! have passed or COUNT cases are done. A case is the same on every run. With
 //! --bare nothing lies about the plan and the buffers: a checker of memory then
@@ -68,7 +68,7 @@ fn main() {
         });
     }
     for case in harmed_cases() {
-        let (name, case) = (format!("plan X, {}", case.kind), options.lay(case));
+        let (name, case) = (case.kind.clone(), options.lay(case));
         options.put(&name, Some(&case.file), || {
             check_once(LIBRARY, &case, &mut tally)
         });

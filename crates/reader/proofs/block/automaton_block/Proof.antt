@@ -4,9 +4,13 @@ use borrow.Author.Needs.{needs}
 use Rattle.reader.proofs.block.automaton_block.Statement.{statement}
 use Rattle.reader.proofs.block.automaton_block.Tie as tie
 
+-- behind the last line, and before the parts are put together
+abbrev read : tie.After-first-of3 → tie.After-move-block
+read c = c .before .before .before .before .before .before .before
+
 returns : tie.Need-returns
 returns c =
-    let move = c .before .before .before .before .before .before in
+    let move = read c in
     let count = move .before .before in
     let accept = count .before .before in
     let first = accept .before .before .before in

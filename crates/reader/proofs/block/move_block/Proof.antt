@@ -12,18 +12,18 @@ use borrow.Author.Needs.{needs}
 use Rattle.reader.proofs.block.move_block.Statement.{statement}
 use Rattle.reader.proofs.block.move_block.Tie as tie
 
-record Read (s : List ℕ) (n states labels : ℕ) (prior line : Line) (from need bar to : List ℕ) (i : ℕ) : Type 0 where
+record Read (s : List ℕ) (n states labels : ℕ) (prior line : Line) (from need bar any to : List ℕ) (i : ℕ) : Type 0 where
   pub within : i ≤ n
   pub room : n ≤ 64
   pub state-bytes : states ≤ 256
   pub label-bytes : labels ≤ 256
-  pub same : moveBlock s prior n states labels ≡ rest n (moveStep s states labels) i (movesIn line from need bar to)
+  pub same : moveBlock s prior n states labels ≡ rest n (moveStep s states labels) i (movesIn line from need bar any to)
 
 abbrev Inv-loop : tie.InvT-loop
-Inv-loop s n states labels line₀ from₀ need₀ bar₀ to₀ i₀ t13 line from need bar to i = Read s n states labels line₀ line from need bar to i
+Inv-loop s n states labels line₀ from₀ need₀ bar₀ any₀ to₀ i₀ t14 line from need bar any to i = Read s n states labels line₀ line from need bar any to i
 
 abbrev μ-loop : tie.MeasureT-loop
-μ-loop s n states labels line₀ from₀ need₀ bar₀ to₀ i₀ t13 line from need bar to i = n - i
+μ-loop s n states labels line₀ from₀ need₀ bar₀ any₀ to₀ i₀ t14 line from need bar any to i = n - i
 
 -- the places that the answers refer to: a turn, and where its line was read
 abbrev read : tie.After-numbers-of Inv-loop μ-loop → tie.After-move-line Inv-loop μ-loop
@@ -50,21 +50,26 @@ cast-bar c =
     let n = c .before .before .before in
     record { fits = byte (λ xs. xs .third) _ _ _ (n .numbers-of .ensures) (read n .move-line .ensures .third-low) (turn n .before .loop .inv .label-bytes) }
 
+cast-any : tie.Need-cast-any Inv-loop μ-loop
+cast-any c =
+    let n = c .before .before .before .before in
+    record { fits = byte (λ xs. xs .fourth) _ _ _ (n .numbers-of .ensures) (read n .move-line .ensures .fourth-low) (turn n .before .loop .inv .label-bytes) }
+
 cast-to : tie.Need-cast-to Inv-loop μ-loop
 cast-to c =
-    let n = c .before .before .before .before in
-    record { fits = byte (λ xs. xs .fourth) _ _ _ (n .numbers-of .ensures) (read n .move-line .ensures .fourth-low) (turn n .before .loop .inv .state-bytes) }
+    let n = c .before .before .before .before .before in
+    record { fits = byte (λ xs. xs .fifth) _ _ _ (n .numbers-of .ensures) (read n .move-line .ensures .fifth-low) (turn n .before .loop .inv .state-bytes) }
 
 loop-again : tie.Need-loop-again Inv-loop μ-loop
 loop-again c =
-    let n = c .before .before .before .before in let l = turn n .before .loop in
+    let n = c .before .before .before .before .before in let l = turn n .before .loop in
     record {
       within = omega arith;
       room = l .inv .room;
       state-bytes = l .inv .state-bytes;
       label-bytes = l .inv .label-bytes;
       same = rest-step _ _ _ _ _ (l .inv .same) (turn n .loop-test .taken) _
-          (move-step _ _ _ _ _ _ (l .from) (l .need) (l .bar) (l .to) _ (read n .move-line .ensures .same) (n .numbers-of .ensures));
+          (move-step _ _ _ _ _ _ (l .from) (l .need) (l .bar) (l .any) (l .to) _ (read n .move-line .ensures .same) (n .numbers-of .ensures));
     }
 
 returns : tie.Need-returns Inv-loop μ-loop
@@ -85,6 +90,8 @@ move-block-spec =
     cast-need
     (λ c. search needs)
     cast-bar
+    (λ c. search needs)
+    cast-any
     (λ c. search needs)
     cast-to
     (λ c. search needs)
