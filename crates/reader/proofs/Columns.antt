@@ -33,23 +33,25 @@ pub record Column (m i : ℕ) (xs : List ℕ) : Type 0 where
   pub low : (k : ℕ) → getD xs k 0 ≤ m
   pub rest : ZeroFrom i xs
 
-zeros-low : (m n k : ℕ) → getD (replicate n 0) k 0 ≤ m
-zeros-low m zero k = omega arith
-zeros-low m (suc n) zero = omega arith
-zeros-low m (suc n) (suc k) = zeros-low m n k
+-- what holds of the default z holds of an array of it, and is kept by putting an entry of which it holds
+module _ {A : Type 0} (P : A → Type 0) (z : A) where
+  pub all-same : P z → (n k : ℕ) → P (getD (replicate n z) k z)
+  all-same p zero k = p
+  all-same p (suc n) zero = p
+  all-same p (suc n) (suc k) = all-same p n k
+
+  pub all-set : (xs : List A) (i : ℕ) (x : A) → ((k : ℕ) → P (getD xs k z)) → P x → (k : ℕ) → P (getD (set xs i x) k z)
+  all-set [] i x h p k = h k
+  all-set (y ∷ ys) zero x h p zero = p
+  all-set (y ∷ ys) zero x h p (suc k) = h (suc k)
+  all-set (y ∷ ys) (suc i) x h p zero = h zero
+  all-set (y ∷ ys) (suc i) x h p (suc k) = all-set ys i x (λ j. h (suc j)) p k
 
 pub zeros-rest : (n : ℕ) → ZeroFrom 0 (replicate n 0)
-zeros-rest n k h = omega (arith, zeros-low 0 n k)
+zeros-rest n k h = all-same (λ x. x ≡ 0) 0 refl n k
 
 column-zeros : (m n : ℕ) → Column m 0 (replicate n 0)
-column-zeros m n = record { low = zeros-low m n; rest = zeros-rest n }
-
-set-low : (m : ℕ) (xs : List ℕ) (i x : ℕ) → ((k : ℕ) → getD xs k 0 ≤ m) → x ≤ m → (k : ℕ) → getD (set xs i x) k 0 ≤ m
-set-low m [] i x h l k = h k
-set-low m (y ∷ ys) zero x h l zero = l
-set-low m (y ∷ ys) zero x h l (suc k) = h (suc k)
-set-low m (y ∷ ys) (suc i) x h l zero = h zero
-set-low m (y ∷ ys) (suc i) x h l (suc k) = set-low m ys i x (λ j. h (suc j)) l k
+column-zeros m n = record { low = all-same (λ x. x ≤ m) 0 (omega arith) n; rest = zeros-rest n }
 
 pub set-rest : (xs : List ℕ) (i x : ℕ) → ZeroFrom i xs → ZeroFrom (i + 1) (set xs i x)
 set-rest xs i x h k o =
@@ -58,7 +60,7 @@ set-rest xs i x h k o =
     getD-set-other xs i k x 0 d ∙ h k l
 
 column-set : {m i : ℕ} {xs : List ℕ} (x : ℕ) → Column m i xs → x ≤ m → Column m (i + 1) (set xs i x)
-column-set {m} {i} {xs} x c l = record { low = set-low m xs i x (c .low) l; rest = set-rest xs i x (c .rest) }
+column-set {m} {i} {xs} x c l = record { low = all-set (λ y. y ≤ m) 0 xs i x (c .low) l; rest = set-rest xs i x (c .rest) }
 
 pub column-below : (bound i : ℕ) (xs : List ℕ) → 1 ≤ bound → Column (bound - 1) i xs → Below bound xs
 column-below bound i xs o c k = let z = c .low k in omega arith

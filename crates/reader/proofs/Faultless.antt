@@ -3,10 +3,10 @@
 use mathlib.Core.Path.{_≡_, refl, _∙_}
 use mathlib.Core.Bool.{true, false}
 use mathlib.Core.List.{List}
-use Prim.Native.Nat.{ℕ, zero, suc, _+_, _^_, _≤_, _<_}
+use Prim.Native.Nat.{ℕ, _+_, _^_, _≤_, _<_}
 use native.Mathlib.Omega.{arith}
 use native.Mathlib.Decide.{ℕ-discrete}
-use lib.ListN.{length, getD, replicate, length-set}
+use lib.ListN.{length, getD, length-set}
 use lib.Seq.{getD-set-same, getD-set-other}
 use Rattle.automata.specs.WellFormed as automaton
 use Rattle.automata.specs.WellFormed.{ZeroFrom, noAutomaton}
@@ -20,7 +20,7 @@ use Rattle.reader.specs.declared.line.Line.the-variants as line
 use Rattle.reader.specs.declared.block.SoftBlocks.{SoftBlocks}
 use Rattle.reader.proofs.Lines.{within-both, good, Led, First, one-led, road-led, move-led}
 use Rattle.reader.proofs.Sticky.{Sticky, moves-keep, soft-keeps}
-use Rattle.reader.proofs.Columns.{filled, column-below, set-rest, zeros-rest, moves-filled}
+use Rattle.reader.proofs.Columns.{filled, all-same, column-below, set-rest, zeros-rest, moves-filled}
 
 abbrev pub Faulty : Line → Type 0
 Faulty l = good l ≡ false
@@ -168,13 +168,14 @@ module _ (s : List ℕ) (labels : ℕ) (m : 1 ≤ labels) where
       rest-weights = set-rest (x .block .weights) (x .next) _ (p .rest-weights);
     }
 
-  none-rest : (n k : ℕ) → getD (replicate n noAutomaton) k noAutomaton ≡ noAutomaton
-  none-rest zero k = refl
-  none-rest (suc n) zero = refl
-  none-rest (suc n) (suc k) = none-rest n k
-
   pub softs-read : (l : Line) (n : ℕ) → SoftsRead labels n (softBlocks s l n labels)
   unfolding softBlocks
   softs-read l n =
       filled (softStep s labels) (SoftsRead labels) (λ x. refl) soft-step n _
-      (record { room = refl; weight-room = refl; read = λ e k h b. absurd (omega arith); rest = λ k h. none-rest 8 k; rest-weights = zeros-rest 8 })
+      (record {
+        room = refl;
+        weight-room = refl;
+        read = λ e k h b. absurd (omega arith);
+        rest = λ k h. all-same (λ a. a ≡ noAutomaton) noAutomaton refl 8 k;
+        rest-weights = zeros-rest 8;
+      })

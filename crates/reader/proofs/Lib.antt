@@ -7,3 +7,4 @@ pub mod Answers
 pub mod Columns
 pub mod Faultless
 pub mod WellRead
+pub mod Fours

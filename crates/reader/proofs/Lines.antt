@@ -54,7 +54,7 @@ judged-same : (s : List ℕ) (at next : ℕ) (t u : Bool) (xs ys : Numbers) → 
 judged-same s at next t true xs ys e f = rw (e, f refl)
 judged-same s at next t false xs ys e f = rw e
 
-abbrev numbers : ℕ → ℕ → ℕ → ℕ → ℕ → Numbers
+abbrev pub numbers : ℕ → ℕ → ℕ → ℕ → ℕ → Numbers
 numbers a b c d e = record { first = a; second = b; third = c; fourth = d; fifth = e }
 
 move-tests : (xs : Numbers) (q labels : ℕ) → moveFits xs q labels ≡ true
