@@ -28,13 +28,13 @@ loop-holds c = record { within = omega arith; room = search needs; bytes = searc
 
 loop-again : tie.Need-loop-again Inv-loop μ-loop
 loop-again c =
-    let l = c .before .before .before .before .loop in
+    let read = c .before in let turn = read .before .before in let l = turn .before .loop in
     record {
       within = omega arith;
       room = l .inv .room;
       bytes = l .inv .bytes;
-      same = rest-step _ _ _ _ _ (l .inv .same) (c .before .before .before .loop-test .taken) _
-          (label-step _ _ _ _ _ (l .labels) _ (c .before .line-of-one .ensures .same) (c .first-of .ensures));
+      same = rest-step _ _ _ _ _ (l .inv .same) (turn .loop-test .taken) _
+          (label-step _ _ _ _ _ (l .labels) _ (read .line-of-one .ensures .same) (c .first-of .ensures));
     }
 
 returns : tie.Need-returns Inv-loop μ-loop
