@@ -26,7 +26,8 @@ use Rattle.plan.specs.Key.{tie, keyOf, key}
 use Rattle.plan.specs.declared.Plan.{Plan}
 use Rattle.plan.proofs.Keys.{key-mono, key-better}
 use Rattle.text.specs.Scan.{startsWith, isDigit, canonical, digitCount, value, leading, numberAt, keyAt}
-use Rattle.reader.specs.Line.{within, lineOfOne, roadLine, moveLine, finish}
+use Rattle.text.specs.Line.{within, lineOfOne, finish}
+use Rattle.reader.specs.Line.{roadLine, moveLine}
 use Rattle.reader.specs.Blocks.{repeat, labelBlock, roadBlock, moveBlock, automatonBlock, hardBlock, softBlock, softBlocks}
 use Rattle.reader.specs.Map.{mapOf}
 use Rattle.reader.specs.Reading.{draftOf, answer, readPlan}

@@ -1,4 +1,9 @@
 -- What the parts of a plan file come to: the draft of its lines, and the answer, case by case.
+--   draft-made                  == the draft
+--   too-long, faulty, faultless == the answer
+--   Turned x, read-turned       == why a plan file is turned away: it is too long, or a line of it has a fault, no later one than may follow
+--                                  60,000 line ends
+--   read-low, refused-early     == so no number is above 3, and no line above 60,001
 use mathlib.Core.Path.{_≡_, refl, sym, ap, _∙_}
 use mathlib.Core.Bool.{Bool, true, false, cond}
 use mathlib.Core.List.{List}
@@ -15,22 +20,23 @@ use Rattle.plan.specs.declared.Plan.{Plan}
 use Rattle.plan.specs.declared.Refusal.{Refusal}
 use Rattle.plan.specs.declared.Refusal.the-variants as cause
 use Rattle.reader.specs.Keys.{rulesKey}
-use Rattle.reader.specs.Line.{lineOfOne, firstOf, finish}
+use Rattle.text.specs.Line.{lineOfOne, firstOf, finish}
 use Rattle.reader.specs.Blocks.{hardBlock, softBlocks}
 use Rattle.reader.specs.Map.{mapOf}
 use Rattle.reader.specs.Outcome.{number, lineOf}
 use Rattle.reader.specs.Reading.{draftOf, refuse, answer, readPlan}
-use Rattle.reader.specs.declared.line.Numbers.{Numbers}
-use Rattle.reader.specs.declared.line.Cursor.{Cursor}
-use Rattle.reader.specs.declared.line.Line.{Line}
-use Rattle.reader.specs.declared.line.Line.the-variants as line
+use Rattle.text.specs.declared.line.Numbers.{Numbers}
+use Rattle.text.specs.declared.line.Cursor.{Cursor}
+use Rattle.text.specs.declared.line.Line.{Line}
+use Rattle.text.specs.declared.line.Line.the-variants as line
 use Rattle.reader.specs.declared.block.AutomatonBlock.{AutomatonBlock}
 use Rattle.reader.specs.declared.block.SoftBlocks.{SoftBlocks}
 use Rattle.reader.specs.declared.map.Map.{Map}
 use Rattle.reader.specs.declared.Draft.{Draft}
+use Rattle.reader.specs.declared.Outcome.{Outcome}
 use Rattle.reader.specs.declared.Outcome.the-variants as outcome
 use Rattle.reader.specs.declared.Reading.{Reading}
-use Rattle.reader.proofs.Sticky.{faultAt, draft-early}
+use Rattle.reader.proofs.Sticky.{Placed, draft-placed}
 
 module _ (s : List ℕ) where
   pub draft-made : (m : Map) (bound : ℕ) (h : AutomatonBlock) (count : Line) (n : ℕ) (x : SoftBlocks) (l : Line)
@@ -69,29 +75,39 @@ module _ (s : List ℕ) where
     unfolding readPlan answer
     faultless xs c k = rw (le-ltb 60000 (length s) h, ← e, k)
 
--- what is answered of a plan file: no number above 3, and no line beyond the one that may follow 60,000 line ends
+pub data Turned (x : Refusal) : Type 0 where
+  long : x ≡ cause.PlanTooLong → Turned x
+  lined : (f : Fault) → x ≡ cause.Line f → 1 ≤ fault.lineOf f → fault.lineOf f ≤ 60001 → Turned x
+
+fault-low : (f : Fault) → fault.number f ≤ 3
+fault-low (Form n) = omega arith
+fault-low (Range n) = omega arith
+
+turned-low : {x : Refusal} → Turned x → (refusal.number x ≤ 3) × (refusal.lineOf x ≤ 60001)
+turned-low (long e) = rw e (omega arith, omega arith)
+turned-low (lined f e low high) = rw e (fault-low f, high)
+
 module _ (s : List ℕ) where
-  fault-low : (f : Fault) → fault.number f ≤ 3
-  fault-low (Form n) = omega arith
-  fault-low (Range n) = omega arith
-
-  answered : (l : Line) (p : Plan) → faultAt l ≤ 60001 → (number (answer l p .outcome) ≤ 3) × (lineOf (answer l p .outcome) ≤ 60001)
+  answered : (l : Line) (p : Plan) → length s ≤ 60000 → Placed s l → (x : Refusal) → answer l p .outcome ≡ outcome.Refused x → Turned x
   unfolding answer
-  answered (line.Fault f) p h = (fault-low f, h)
-  answered (line.Numbers xs c) p h = (omega arith, omega arith)
+  answered (line.Fault f) p h at x e = lined f (cc) (at .0) (omega arith)
+  answered (line.Numbers xs c) p h at x e = let z : _≡_ {A = ℕ} 0 1 = cc in absurd (omega arith)
 
-  pub read-low : (number (readPlan s .outcome) ≤ 3) × (lineOf (readPlan s .outcome) ≤ 60001)
+  pub read-turned : (x : Refusal) → readPlan s .outcome ≡ outcome.Refused x → Turned x
   unfolding readPlan
-  read-low = by (ltb 60000 (length s)) refl
+  read-turned x = by (ltb 60000 (length s)) refl
     where
       by : (b : Bool) → ltb 60000 (length s) ≡ b
-          → (number (cond b (refuse cause.PlanTooLong) (answer (draftOf s .line) (draftOf s .plan)) .outcome) ≤ 3)
-          × (lineOf (cond b (refuse cause.PlanTooLong) (answer (draftOf s .line) (draftOf s .plan)) .outcome) ≤ 60001)
-      by true e = (omega arith, omega arith)
-      by false e = answered (draftOf s .line) (draftOf s .plan) (omega (arith, draft-early s, ltb-false 60000 (length s) e))
+          → cond b (refuse cause.PlanTooLong) (answer (draftOf s .line) (draftOf s .plan)) .outcome ≡ outcome.Refused x → Turned x
+      by true e k = long (cc)
+      by false e k = answered (draftOf s .line) (draftOf s .plan) (ltb-false 60000 (length s) e) (draft-placed s) x k
 
-  -- the same line of a refusal that the reader answered
+  pub read-low : (number (readPlan s .outcome) ≤ 3) × (lineOf (readPlan s .outcome) ≤ 60001)
+  read-low = by (readPlan s .outcome) refl
+    where
+      by : (o : Outcome) → readPlan s .outcome ≡ o → (number o ≤ 3) × (lineOf o ≤ 60001)
+      by outcome.Plan e = (omega arith, omega arith)
+      by (outcome.Refused x) e = turned-low (read-turned x e)
+
   pub refused-early : (r : Reading) → r ≡ readPlan s → (x : Refusal) → r .outcome ≡ outcome.Refused x → refusal.lineOf x ≤ 60001
-  refused-early r same x e =
-      let o : readPlan s .outcome ≡ outcome.Refused x = ap (λ y. y .outcome) (sym same) ∙ e in
-      rw o at (read-low .1)
+  refused-early r same x e = turned-low (read-turned x (ap (λ y. y .outcome) (sym same) ∙ e)) .1

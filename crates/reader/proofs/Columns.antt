@@ -8,11 +8,12 @@ use lib.ListN.{set, getD, replicate}
 use lib.Seq.{getD-set-other}
 use Rattle.automata.specs.WellFormed.{Below, ZeroFrom}
 use Rattle.reader.specs.Blocks.{repeat, Filling, labelStep, labelBlock, roadStep, roadBlock, moveStep, moveBlock}
-use Rattle.reader.specs.declared.line.Line.{Line}
+use Rattle.text.specs.declared.line.Line.{Line}
 use Rattle.reader.specs.declared.block.LabelBlock.{LabelBlock}
 use Rattle.reader.specs.declared.block.RoadBlock.{RoadBlock}
 use Rattle.reader.specs.declared.block.MoveBlock.{MoveBlock}
-use Rattle.reader.proofs.Lines.{one-is, road-is, move-is}
+use Rattle.text.proofs.Lines.{one-is}
+use Rattle.reader.proofs.Lines.{road-is, move-is}
 
 -- what each line keeps of the block and of the count of lines read, n lines keep
 module _ {B : Type 0} (f : Filling B → Filling B) (Q : ℕ → B → Type 0) (next : (x : Filling B) → f x .next ≡ x .next + 1)

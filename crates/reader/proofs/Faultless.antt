@@ -11,14 +11,16 @@ use lib.Seq.{getD-set-same, getD-set-other}
 use Rattle.automata.specs.WellFormed as automaton
 use Rattle.automata.specs.WellFormed.{ZeroFrom, noAutomaton}
 use Rattle.automata.specs.declared.Automaton.{Automaton}
-use Rattle.reader.specs.Line.{lineOfOne, roadLine, moveLine, firstOf, finish}
+use Rattle.text.specs.Line.{lineOfOne, firstOf, finish}
+use Rattle.reader.specs.Line.{roadLine, moveLine}
 use Rattle.reader.specs.Keys.{firstKey, acceptKey, movesKey, hardKey, softKey, weightKey}
 use Rattle.reader.specs.Blocks.{Filling, moveBlock, automatonBlock, hardBlock, softBlock, softStep, softBlocks}
-use Rattle.reader.specs.declared.line.Numbers.{Numbers}
-use Rattle.reader.specs.declared.line.Line.{Line}
-use Rattle.reader.specs.declared.line.Line.the-variants as line
+use Rattle.text.specs.declared.line.Numbers.{Numbers}
+use Rattle.text.specs.declared.line.Line.{Line}
+use Rattle.text.specs.declared.line.Line.the-variants as line
 use Rattle.reader.specs.declared.block.SoftBlocks.{SoftBlocks}
-use Rattle.reader.proofs.Lines.{within-both, good, Led, First, one-led, road-led, move-led}
+use Rattle.text.proofs.Lines.{within-both, good, Led, First, one-led}
+use Rattle.reader.proofs.Lines.{road-led, move-led}
 use Rattle.reader.proofs.Sticky.{Sticky, moves-keep, soft-keeps}
 use Rattle.reader.proofs.Columns.{filled, all-same, column-below, set-rest, zeros-rest, moves-filled}
 

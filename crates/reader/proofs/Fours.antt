@@ -30,12 +30,13 @@ use Rattle.plan.specs.WellFormed.{soft, noPlan}
 use Rattle.plan.specs.declared.Plan.{Plan}
 use Rattle.plan.specs.declared.Refusal.the-variants.{PlanTooLong}
 use Rattle.reader.specs.Keys.{moveKey, firstKey, acceptKey, movesKey}
-use Rattle.reader.specs.Line.{behind, judged, closed, lineOfOne, moveFits, moveLine, numbersOf, firstOf}
+use Rattle.text.specs.Line.{behind, judged, closed, lineOfOne, numbersOf, firstOf}
+use Rattle.reader.specs.Line.{moveFits, moveLine}
 use Rattle.reader.specs.Blocks.{repeat, Filling, moveStep, moveBlock, automatonBlock, hardBlock, softBlock, softStep, softBlocks}
 use Rattle.reader.specs.Reading.{draftOf, refuse, answer, readPlan}
-use Rattle.reader.specs.declared.line.Numbers.{Numbers}
-use Rattle.reader.specs.declared.line.Line.{Line}
-use Rattle.reader.specs.declared.line.Line.the-variants as line
+use Rattle.text.specs.declared.line.Numbers.{Numbers}
+use Rattle.text.specs.declared.line.Line.{Line}
+use Rattle.text.specs.declared.line.Line.the-variants as line
 use Rattle.reader.specs.declared.block.MoveBlock.{MoveBlock}
 use Rattle.reader.specs.declared.block.SoftBlocks.{SoftBlocks}
 use Rattle.reader.proofs.Lines.{numbers}

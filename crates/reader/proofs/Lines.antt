@@ -1,58 +1,29 @@
--- What a line comes to.
---   within-both             == what a range test says
---   one-held, road-held, move-held == a line of good form is judged by held values as by the exact ones: a test against a bound of at
---                              most 4,000,000,000 does not tell the two apart, and a number that passes it was not held
---   one-fault, one-bad, one-good, .. == what each kind of line is: by the line before it, and by its last number
+-- What the lines of a plan file that hold more than one number come to; the laws of any line stand in `text/proofs/Lines`.
+--   road-held, move-held    == a line of good form is judged by held values as by the exact ones
+--   road-fault, road-bad, road-good, .. == what each kind of line is: by the line before it, and by its last number
 --   byte                    == a number below a bound of at most 256 fits a byte
---   good l                  == the line l has no fault
---   Fails s l f             == the fault f is that of the line l, or of a line of s
---   Led s Q l r             == behind the line l comes the line r: a fault, or, where l has none, numbers of which Q holds
---   one-led, road-led, move-led == what each kind of line leads to: numbers in their ranges
---   one-is, road-is, move-is == so each kind of line is read as promised, its numbers below their bounds
-use mathlib.Core.Path.{_≡_, refl, sym, ap, subst, _∙_}
-use mathlib.Core.Bool.{Bool, true, false, cond, _&&_}
+--   road-led, move-led      == what each kind of line leads to: numbers in their ranges
+--   road-is, move-is        == so each kind of line is read as promised, its numbers below their bounds
+use mathlib.Core.Path.{_≡_, refl, sym, subst, _∙_}
+use mathlib.Core.Bool.{true, _&&_}
 use mathlib.Core.List.{List}
 use Prim.Native.Nat.{ℕ, _-_, _≤_, _<_, min}
 use native.Mathlib.Omega.{arith}
 use lib.Dec.{ltb}
-use borrow.Author.Tests.{ltb-true, ltb-false, lt-ltb, le-ltb}
+use borrow.Author.Tests.{ltb-true}
 use Rattle.base.proofs.Tests.{and-left, and-right}
-use Rattle.text.specs.Fault as fault
-use Rattle.text.specs.Scan.{keyAt, nextNumber, elseNumber, either, valueOf, lineAt}
+use Rattle.text.specs.Scan.{keyAt, nextNumber, elseNumber, either, valueOf}
+use Rattle.text.specs.Line.{pair, badForm, judged}
 use Rattle.text.specs.declared.fault.Fault.{Fault}
 use Rattle.text.specs.declared.read.Number.{Number}
-use Rattle.text.specs.declared.read.Number.the-variants.{Value, Bad}
+use Rattle.text.specs.declared.read.Number.the-variants.{Bad}
+use Rattle.text.specs.declared.line.Numbers.{Numbers}
+use Rattle.text.specs.declared.line.Cursor.{Cursor}
+use Rattle.text.specs.declared.line.Line.{Line}
+use Rattle.text.specs.declared.line.Line.the-variants as line
 use Rattle.text.proofs.Held.{Told}
-use Rattle.reader.specs.Line.{pair, badForm, judged, closed, within, lineOfOne, roadFits, roadLine, moveFits, moveLine, numbersOf, OneRead, RoadRead, MoveRead}
-use Rattle.reader.specs.declared.line.Numbers.{Numbers}
-use Rattle.reader.specs.declared.line.Cursor.{Cursor}
-use Rattle.reader.specs.declared.line.Line.{Line}
-use Rattle.reader.specs.declared.line.Line.the-variants as line
-
-pub within-both : (x low bound : ℕ) → within x low bound ≡ true → (low ≤ x) × (x < bound)
-unfolding within
-within-both x low bound e = by-test (ltb x low) (ltb x bound) refl refl e
-  where
-    by-test : (t u : Bool) → ltb x low ≡ t → ltb x bound ≡ u → cond t false u ≡ true → (low ≤ x) × (x < bound)
-    by-test true u p q e = let z : _≡_ {A = ℕ} 0 1 = cc in absurd (omega arith)
-    by-test false u p q e = (ltb-false x low p, ltb-true x bound (q ∙ e))
-
--- the exact values are v, the held ones x
-record Same (v x bound : ℕ) : Type 0 where
-  pub test : ltb x bound ≡ ltb v bound
-  pub passed : ltb v bound ≡ true → x ≡ v
-
-same-below : (v x bound : ℕ) → x ≡ min v 4000000000 → bound ≤ 4000000000 → Same v x bound
-same-below v x bound e h = by (ltb v bound) refl
-  where
-    by : (t : Bool) → ltb v bound ≡ t → Same v x bound
-    by true p = let l = ltb-true v bound p in record { test = lt-ltb x bound (omega arith) ∙ sym p; passed = λ q. omega arith }
-    by false p = let l = ltb-false v bound p in record { test = le-ltb x bound (omega arith) ∙ sym p; passed = λ q. omega (arith, ltb-true v bound q) }
-
-judged-same : (s : List ℕ) (at next : ℕ) (t u : Bool) (xs ys : Numbers) → t ≡ u → (u ≡ true → xs ≡ ys)
-    → judged s at next t xs ≡ judged s at next u ys
-judged-same s at next t true xs ys e f = rw (e, f refl)
-judged-same s at next t false xs ys e f = rw e
+use Rattle.text.proofs.Lines.{same-below, judged-same, before, Led, closed-led, low}
+use Rattle.reader.specs.Line.{roadFits, roadLine, moveFits, moveLine, RoadRead, MoveRead}
 
 abbrev pub numbers : ℕ → ℕ → ℕ → ℕ → ℕ → Numbers
 numbers a b c d e = record { first = a; second = b; third = c; fourth = d; fifth = e }
@@ -71,23 +42,6 @@ move-tests xs q labels h =
     )
 
 module _ (s : List ℕ) (at next : ℕ) where
-  one-held : (v x low bound : ℕ) → x ≡ min v 4000000000 → bound ≤ 4000000000
-      → judged s at next (within x low bound) (pair x 0) ≡ judged s at next (within v low bound) (pair v 0)
-  unfolding within
-  one-held v x low bound e h = by (ltb v low) (ltb x low) refl refl
-    where
-      k : Same v x bound
-      k = same-below v x bound e h
-
-      by : (t u : Bool) → ltb v low ≡ t → ltb x low ≡ u
-          → judged s at next (cond u false (ltb x bound)) (pair x 0) ≡ judged s at next (cond t false (ltb v bound)) (pair v 0)
-      by true true p q = refl
-      by false false p q = judged-same s at next _ _ _ _ (k .test) (λ g. rw (k .passed g))
-      by true false p q = let l = ltb-true v low p in let m = ltb-false x low q in absurd (omega arith)
-      by false true p q =
-          let l = ltb-false v low p in let m = ltb-true x low q in
-          rw (le-ltb v bound (omega arith))
-
   road-held : (v w x y bound : ℕ) → x ≡ min v 4000000000 → y ≡ min w 4000000000 → bound ≤ 4000000000
       → judged s at next (roadFits (pair x y) bound) (pair x y) ≡ judged s at next (roadFits (pair v w) bound) (pair v w)
   road-held v w x y bound e f h =
@@ -110,10 +64,6 @@ module _ (s : List ℕ) (at next : ℕ) where
 
 -- a line that stands behind one with a fault
 module _ (s : List ℕ) (l : Line) (key : List ℕ) (f : Fault) (p : l ≡ line.Fault f) where
-  pub one-fault : (low bound : ℕ) → l ≡ lineOfOne s l key low bound
-  unfolding lineOfOne
-  one-fault low bound = rw p
-
   pub road-fault : (bound : ℕ) → l ≡ roadLine s l key bound
   unfolding roadLine
   road-fault bound = rw p
@@ -126,15 +76,6 @@ module _ (s : List ℕ) (l : Line) (key : List ℕ) (f : Fault) (p : l ≡ line.
 module _ (s : List ℕ) (l : Line) (key : List ℕ) (xs : Numbers) (c : Cursor) (p : l ≡ line.Numbers xs c) where
   abbrev first : ℕ → Number
   first e = nextNumber s (keyAt s (c .at) key) e
-
-  pub one-bad : (low bound : ℕ) → first 10 ≡ Bad → badForm s (c .at) ≡ lineOfOne s l key low bound
-  unfolding lineOfOne
-  one-bad low bound e = rw (p, e)
-
-  pub one-good : (low bound x n : ℕ) → bound ≤ 4000000000 → Told (first 10) x n
-      → judged s (c .at) n (within x low bound) (pair x 0) ≡ lineOfOne s l key low bound
-  unfolding lineOfOne
-  one-good low bound x n h a = one-held s (c .at) n (valueOf (first 10)) x low bound (a .held) h ∙ rw (p, a .is)
 
   pub road-bad : (bound : ℕ) → nextNumber s (first 44) 10 ≡ Bad → badForm s (c .at) ≡ roadLine s l key bound
   unfolding roadLine
@@ -167,46 +108,13 @@ module _ (s : List ℕ) (l : Line) (key : List ℕ) (xs : Numbers) (c : Cursor) 
   move-good q labels x y z a o n h g e1 e2 e3 e4 e5 =
       move-held s (c .at) n _ _ _ _ _ x y z a o q labels e1 e2 e3 e4 (e5 .held) h g ∙ rw (p, e5 .is)
 
--- what a line leads to
-abbrev pub good : Line → Bool
-good (line.Numbers xs c) = true
-good (line.Fault f) = false
-
-pub data Fails (s : List ℕ) (l : Line) (f : Fault) : Type 0 where
-  before : l ≡ line.Fault f → Fails s l f
-  here : (at : ℕ) → fault.lineOf f ≡ lineAt s at → Fails s l f
-
-abbrev pub Led : List ℕ → (Numbers → Type 0) → Line → Line → Type 0
-Led s Q l (line.Numbers xs c) = (good l ≡ true) × Q xs
-Led s Q l (line.Fault f) = Fails s l f
-
-abbrev pub First : ℕ → ℕ → Numbers → Type 0
-First low bound xs = within (xs .first) low bound ≡ true
-
 abbrev Road : ℕ → Numbers → Type 0
 Road bound xs = roadFits xs bound ≡ true
 
 abbrev Move : ℕ → ℕ → Numbers → Type 0
 Move q labels xs = moveFits xs q labels ≡ true
 
-module _ (s : List ℕ) (Q : Numbers → Type 0) (l : Line) where
-  closed-led : good l ≡ true → (at : ℕ) (n : Number) (t : Bool) (xs : Numbers) → (t ≡ true → Q xs) → Led s Q l (closed s at n t xs)
-  closed-led g at Bad t xs f = here at refl
-  closed-led g at (Value v i) true xs f = (g, f refl)
-  closed-led g at (Value v i) false xs f = here at refl
-
-  low : (f : Numbers → ℕ) (bound : ℕ) → f (pair 0 0) ≡ 0 → ((xs : Numbers) → Q xs → f xs < bound) → (r : Line) → Led s Q l r
-      → f (numbersOf r) ≤ bound - 1
-  low f bound z h (line.Numbers xs c) g = omega (arith, h xs (g .1))
-  low f bound z h (line.Fault e) g = omega (arith, z)
-
 module _ (s : List ℕ) where
-  pub one-led : (l : Line) (key : List ℕ) (low bound : ℕ) → Led s (First low bound) l (lineOfOne s l key low bound)
-  unfolding lineOfOne
-  one-led (line.Fault f) key low bound = before refl
-  one-led (line.Numbers xs c) key low bound =
-      closed-led s (First low bound) (line.Numbers xs c) refl (c .at) (nextNumber s (keyAt s (c .at) key) 10) _ _ (λ e. e)
-
   pub road-led : (l : Line) (key : List ℕ) (bound : ℕ) → Led s (Road bound) l (roadLine s l key bound)
   unfolding roadLine
   road-led (line.Fault f) key bound = before refl
@@ -222,11 +130,6 @@ module _ (s : List ℕ) where
       closed-led s (Move q labels) (line.Numbers xs c) refl (c .at) (either d (nextNumber s (elseNumber s d z 44) 10)) _ _ (λ e. e)
 
 module _ (s : List ℕ) (l : Line) (key : List ℕ) where
-  pub one-is : (least bound : ℕ) (r : Line) → r ≡ lineOfOne s l key least bound → OneRead (lineOfOne s l key least bound) bound r
-  one-is least bound r e =
-      let led = subst (λ x. Led s (First least bound) l x) (sym e) (one-led s l key least bound) in
-      record { same = e; first-low = low s (First least bound) l (λ xs. xs .first) bound refl (λ xs h. within-both (xs .first) least bound h .1) r led }
-
   pub road-is : (bound : ℕ) (r : Line) → r ≡ roadLine s l key bound → RoadRead (roadLine s l key bound) bound r
   road-is bound r e =
       let led = subst (λ x. Led s (Road bound) l x) (sym e) (road-led s l key bound) in

@@ -5,12 +5,13 @@ use mathlib.Core.List.{List}
 use Prim.Native.Nat.{ℕ, _+_}
 use lib.ListN.{set, replicate}
 use Rattle.reader.specs.Keys.{labelKey, roadKey, moveKey}
-use Rattle.reader.specs.Line.{lineOfOne, roadLine, moveLine, numbersOf, firstOf}
+use Rattle.text.specs.Line.{lineOfOne, numbersOf, firstOf}
+use Rattle.reader.specs.Line.{roadLine, moveLine}
 use Rattle.automata.specs.declared.Automaton.{Automaton}
 use Rattle.automata.specs.WellFormed.{noAutomaton}
 use Rattle.reader.specs.Blocks.{labelStep, labelBlock, roadStep, roadBlock, moveStep, moveBlock, softBlock, softStep, softBlocks}
-use Rattle.reader.specs.declared.line.Numbers.{Numbers}
-use Rattle.reader.specs.declared.line.Line.{Line}
+use Rattle.text.specs.declared.line.Numbers.{Numbers}
+use Rattle.text.specs.declared.line.Line.{Line}
 use Rattle.reader.specs.declared.block.LabelBlock.{LabelBlock}
 use Rattle.reader.specs.declared.block.RoadBlock.{RoadBlock}
 use Rattle.reader.specs.declared.block.MoveBlock.{MoveBlock}

@@ -1,28 +1,29 @@
 -- What every line keeps of the line before it, every block keeps, by induction on its count: that there is a fault, and that a
--- fault's line is at most one above the text's length.
+-- fault's line is at least 1 and at most one above the text's length.
 use mathlib.Core.Bool.{Bool, true, false, cond}
 use mathlib.Core.List.{List}
 use Prim.Native.Nat.{ℕ, zero, suc, _+_, _^_, _≤_}
-use native.Mathlib.Omega.{arith}
 use lib.ListN.{length}
 use lib.Dec.{ltb}
 use Rattle.text.specs.Scan.{lineAt}
 use Rattle.text.specs.Fault as fault
-use Rattle.reader.specs.Line.{lineOfOne, roadLine, moveLine, firstOf, top, finish}
+use Rattle.text.specs.Line.{lineOfOne, firstOf, top, finish}
+use Rattle.reader.specs.Line.{roadLine, moveLine}
 use Rattle.reader.specs.Keys.{tourKey, marksKey, placesKey, startKey, roadsKey, firstKey, acceptKey, movesKey, hardKey, rulesKey, softKey, weightKey}
 use Rattle.reader.specs.Blocks.{repeat, Filling, labelStep, labelBlock, roadStep, roadBlock, moveStep, moveBlock, automatonBlock, hardBlock, softBlock, softStep, softBlocks}
 use Rattle.reader.specs.Map.{mapOf}
 use Rattle.reader.specs.Reading.{draftOf}
 use Rattle.text.specs.declared.fault.Fault.the-variants.{Form}
-use Rattle.reader.specs.declared.line.Numbers.{Numbers}
-use Rattle.reader.specs.declared.line.Line.{Line}
-use Rattle.reader.specs.declared.line.Line.the-variants as line
+use Rattle.text.specs.declared.line.Numbers.{Numbers}
+use Rattle.text.specs.declared.line.Line.{Line}
+use Rattle.text.specs.declared.line.Line.the-variants as line
 use Rattle.reader.specs.declared.block.LabelBlock.{LabelBlock}
 use Rattle.reader.specs.declared.block.RoadBlock.{RoadBlock}
 use Rattle.reader.specs.declared.block.MoveBlock.{MoveBlock}
 use Rattle.reader.specs.declared.block.SoftBlocks.{SoftBlocks}
-use Rattle.text.proofs.Newlines.{line-most}
-use Rattle.reader.proofs.Lines.{before, here, Led, one-led, road-led, move-led}
+use Rattle.text.proofs.Newlines.{line-least, line-most}
+use Rattle.text.proofs.Lines.{before, here, Led, one-led}
+use Rattle.reader.proofs.Lines.{road-led, move-led}
 
 -- what f keeps, repeating f keeps
 pub repeat-keeps : {S : Type 0} (P : S → Type 0) (f : S → S) → ((x : S) → P x → P (f x)) → (n : ℕ) (x : S) → P x → P (repeat n f x)
@@ -71,58 +72,54 @@ module _ (s : List ℕ) (P : Line → Type 0) (k : Sticky s P) where
   unfolding softBlocks
   softs-keep l n labels = repeat-keeps (λ (x : Filling SoftBlocks). P (x .block .line)) (softStep s labels) (λ x. soft-keeps (x .block .line) labels) n _
 
--- a fault's line, 0 where there is none
-abbrev pub faultAt : Line → ℕ
-faultAt (line.Numbers xs c) = 0
-faultAt (line.Fault f) = fault.lineOf f
+-- a fault, where there is one, is of a line of s, or of the line behind them
+abbrev pub Placed : List ℕ → Line → Type 0
+Placed s (line.Numbers xs c) = Unit {0}
+Placed s (line.Fault f) = (1 ≤ fault.lineOf f) × (fault.lineOf f ≤ length s + 1)
 
 module _ (s : List ℕ) where
-  abbrev Early : Line → Type 0
-  Early l = faultAt l ≤ length s + 1
+  led-placed : (Q : Numbers → Type 0) (l r : Line) → Led s Q l r → Placed s l → Placed s r
+  led-placed Q l (line.Numbers xs c) g p = tt
+  led-placed Q l (line.Fault f) (before e) p = rw e at p
+  led-placed Q l (line.Fault f) (here at e) p = rw e (line-least s at, line-most s at)
 
-  led-early : (Q : Numbers → Type 0) (l r : Line) → Led s Q l r → Early l → Early r
-  led-early Q l (line.Numbers xs c) g p = omega arith
-  led-early Q l (line.Fault f) (before e) p = rw e at p
-  led-early Q l (line.Fault f) (here at e) p = rw e (line-most s at)
-
-  early : Sticky s Early
-  early = record {
-    one = λ l key low bound. led-early _ l (lineOfOne s l key low bound) (one-led s l key low bound);
-    road = λ l key bound. led-early _ l (roadLine s l key bound) (road-led s l key bound);
-    move = λ l key q labels. led-early _ l (moveLine s l key q labels) (move-led s l key q labels);
+  placed : Sticky s (Placed s)
+  placed = record {
+    one = λ l key low bound. led-placed _ l (lineOfOne s l key low bound) (one-led s l key low bound);
+    road = λ l key bound. led-placed _ l (roadLine s l key bound) (road-led s l key bound);
+    move = λ l key q labels. led-placed _ l (moveLine s l key q labels) (move-led s l key q labels);
   }
 
-  finish-early : (l : Line) → Early l → Early (finish s l)
+  finish-placed : (l : Line) → Placed s l → Placed s (finish s l)
   unfolding finish
-  finish-early (line.Fault f) p = p
-  finish-early (line.Numbers xs c) p = by-test (ltb (c .at) (length s))
+  finish-placed (line.Fault f) p = p
+  finish-placed (line.Numbers xs c) p = by-test (ltb (c .at) (length s))
     where
-      by-test : (t : Bool) → Early (cond t (line.Fault (Form (lineAt s (c .at)))) (line.Numbers xs c))
-      by-test true = line-most s (c .at)
-      by-test false = omega arith
+      by-test : (t : Bool) → Placed s (cond t (line.Fault (Form (lineAt s (c .at)))) (line.Numbers xs c))
+      by-test true = (line-least s (c .at), line-most s (c .at))
+      by-test false = tt
 
-  map-early : Early (mapOf s .line)
+  map-placed : Placed s (mapOf s .line)
   unfolding mapOf
-  map-early =
+  map-placed =
       let tour = lineOfOne s top tourKey 1 2 in
       let marks = lineOfOne s tour marksKey 0 9 in
       let places = lineOfOne s marks placesKey 1 129 in
       let labels = labelBlock s places (firstOf places) (2 ^ firstOf marks) in
       let start = lineOfOne s (labels .line) startKey 0 (firstOf places) in
       let count = lineOfOne s start roadsKey 0 1025 in
-      roads-keep s Early early count (firstOf count) (firstOf places)
-      (early .one start roadsKey 0 1025
-      (early .one (labels .line) startKey 0 (firstOf places)
-      (labels-keep s Early early places (firstOf places) (2 ^ firstOf marks)
-      (early .one marks placesKey 1 129 (early .one tour marksKey 0 9 (early .one top tourKey 1 2 (omega arith)))))))
+      roads-keep s (Placed s) placed count (firstOf count) (firstOf places)
+      (placed .one start roadsKey 0 1025
+      (placed .one (labels .line) startKey 0 (firstOf places)
+      (labels-keep s (Placed s) placed places (firstOf places) (2 ^ firstOf marks)
+      (placed .one marks placesKey 1 129 (placed .one tour marksKey 0 9 (placed .one top tourKey 1 2 tt))))))
 
-  -- the fault of a plan file is of one of its lines, or of the line behind them
-  pub draft-early : faultAt (draftOf s .line) ≤ length s + 1
+  pub draft-placed : Placed s (draftOf s .line)
   unfolding draftOf
-  draft-early =
+  draft-placed =
       let bound = 2 ^ mapOf s .marks in
       let hard = hardBlock s (mapOf s .line) bound in
       let count = lineOfOne s (hard .line) rulesKey 0 9 in
-      finish-early (softBlocks s count (firstOf count) bound .line)
-      (softs-keep s Early early count (firstOf count) bound
-      (early .one (hard .line) rulesKey 0 9 (hard-keeps s Early early (mapOf s .line) bound map-early)))
+      finish-placed (softBlocks s count (firstOf count) bound .line)
+      (softs-keep s (Placed s) placed count (firstOf count) bound
+      (placed .one (hard .line) rulesKey 0 9 (hard-keeps s (Placed s) placed (mapOf s .line) bound map-placed)))

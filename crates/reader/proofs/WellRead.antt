@@ -12,12 +12,12 @@ use Rattle.plan.specs.WellFormed.{WellFormed}
 use Rattle.plan.specs.declared.Plan.{Plan}
 use Rattle.plan.specs.declared.Refusal.the-variants.{PlanTooLong}
 use Rattle.reader.specs.Keys.{tourKey, marksKey, placesKey, startKey, roadsKey, rulesKey}
-use Rattle.reader.specs.Line.{lineOfOne, firstOf, top}
+use Rattle.text.specs.Line.{lineOfOne, firstOf, top}
 use Rattle.reader.specs.Blocks.{labelBlock, roadBlock, hardBlock, softBlocks}
 use Rattle.reader.specs.Map.{mapOf}
 use Rattle.reader.specs.Reading.{draftOf, refuse, answer, readPlan}
-use Rattle.reader.specs.declared.line.Line.{Line}
-use Rattle.reader.specs.declared.line.Line.the-variants as line
+use Rattle.text.specs.declared.line.Line.{Line}
+use Rattle.text.specs.declared.line.Line.the-variants as line
 use Rattle.reader.specs.declared.block.LabelBlock.{LabelBlock}
 use Rattle.reader.specs.declared.block.AutomatonBlock.{AutomatonBlock}
 use Rattle.reader.specs.declared.block.SoftBlocks.{SoftBlocks}
@@ -25,7 +25,7 @@ use Rattle.reader.specs.declared.Reading.{Reading}
 use Rattle.reader.specs.declared.Outcome.the-variants as outcome
 use Rattle.reader.proofs.Sticky.{labels-keep, roads-keep, hard-keeps, softs-keep}
 use Rattle.reader.proofs.Columns.{column-below, labels-filled, roads-filled}
-use Rattle.reader.proofs.Lines.{good}
+use Rattle.text.proofs.Lines.{good}
 use Rattle.reader.proofs.Faultless.{Faulty, faulty, was-good, finish-good, OneGood, one-good, hard-read, softs-read}
 
 -- the lines of the map

@@ -14,8 +14,9 @@ use Prim.Native.Nat.{ℕ, zero, suc, _+_, _^_}
 use lib.ListN.{set, replicate}
 use Rattle.automata.specs.WellFormed.{noAutomaton}
 use Rattle.reader.specs.Keys.{labelKey, roadKey, moveKey, firstKey, acceptKey, movesKey, hardKey, softKey, weightKey}
-use Rattle.reader.specs.Line.{lineOfOne, roadLine, moveLine, numbersOf, firstOf}
-use Rattle.reader.specs.declared.line.Line.{Line}
+use Rattle.text.specs.Line.{lineOfOne, numbersOf, firstOf}
+use Rattle.reader.specs.Line.{roadLine, moveLine}
+use Rattle.text.specs.declared.line.Line.{Line}
 use Rattle.reader.specs.declared.block.LabelBlock.{LabelBlock}
 use Rattle.reader.specs.declared.block.RoadBlock.{RoadBlock}
 use Rattle.reader.specs.declared.block.MoveBlock.{MoveBlock}

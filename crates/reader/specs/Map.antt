@@ -5,7 +5,7 @@ use mathlib.Core.Path.{_≡_}
 use mathlib.Core.List.{List}
 use Prim.Native.Nat.{ℕ, _^_, _≤_}
 use Rattle.reader.specs.Keys.{tourKey, marksKey, placesKey, startKey, roadsKey}
-use Rattle.reader.specs.Line.{lineOfOne, firstOf, top}
+use Rattle.text.specs.Line.{lineOfOne, firstOf, top}
 use Rattle.reader.specs.Blocks.{labelBlock, roadBlock}
 use Rattle.reader.specs.declared.map.Map.{Map}
 

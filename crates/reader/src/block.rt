@@ -1,11 +1,11 @@
 //! Blocks of lines: labels, roads, moves, and the automata of the hard rule and of the soft rules.
-use crate::line::Line;
-use crate::line::first_of;
-use crate::line::line_of_one;
 use crate::line::move_line;
-use crate::line::numbers_of;
 use crate::line::road_line;
 use automata::Automaton;
+use text::line::Line;
+use text::line::first_of;
+use text::line::line_of_one;
+use text::line::numbers_of;
 ghost use mathlib.Core.Path.{_≡_};
 ghost use Prim.Native.Nat.{_^_, _≤_};
 ghost use Rattle.automata.specs.WellFormed.{noAutomaton};

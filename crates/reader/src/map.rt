@@ -2,10 +2,10 @@
 use crate::block::label_block;
 use crate::block::label_count;
 use crate::block::road_block;
-use crate::line::Line;
-use crate::line::first_of;
-use crate::line::line_of_one;
-use crate::line::top;
+use text::line::Line;
+use text::line::first_of;
+use text::line::line_of_one;
+use text::line::top;
 ghost use Rattle.reader.specs.Map.{mapOf, MapRead};
 
 // Places with labels, the start and the roads, and the last of their lines. The fields are a plan's.

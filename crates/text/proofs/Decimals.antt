@@ -5,6 +5,7 @@
 --   decimal-each   == what holds below ten, and of a number if of its tenth, holds of each
 --   decimal-some   == there is a digit
 --   decimal-lead   == the first digit is no 0, but for 0 itself
+--   decimal-first  == the first byte is not below the byte of 0
 --   decimal-length == a number below 10 ^ k has at most k digits
 use mathlib.Core.Path.{_≡_, sym, ap, _∙_}
 use mathlib.Core.List.{[], _∷_, _++_}
@@ -74,6 +75,10 @@ decimal-lead =
     (λ n h tenth some.
     rw (decimal-more n h, List·getD-append (decimal (n / 10)) ((48 + n % 10) ∷ []) 0 0 (decimal-some (n / 10)))
     (tenth (omega arith)))
+
+pub decimal-first : (n : ℕ) → 48 ≤ getD (decimal n) 0 0
+decimal-first zero = rw (decimal-small 0 (omega arith)) (omega arith)
+decimal-first (suc n) = omega (arith, decimal-lead (suc n) (omega arith))
 
 pub decimal-length : (k n : ℕ) → 0 < k → n < 10 ^ k → length (decimal n) ≤ k
 decimal-length zero n some h = absurd (omega arith)

@@ -3,6 +3,13 @@ pub mod Newlines
 pub mod Overs
 pub mod Decimals
 pub mod Held
+pub mod Lines
+pub mod Lists
+pub mod Entries
+pub mod Spelling
 pub mod ReadBack
+pub mod WrittenBack
 pub mod KeyLines
 pub mod Figures
+pub mod ReadLines
+pub mod StoodLines

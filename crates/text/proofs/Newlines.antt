@@ -1,4 +1,4 @@
--- The state laws of the count of line ends, and that a line's number is at most one above the text's length.
+-- The state laws of the count of line ends, and that a line's number is at least 1 and at most one above the text's length.
 use mathlib.Core.Path.{_≡_}
 use mathlib.Core.List.{List, [], _∷_}
 use mathlib.Core.Bool.{Bool, true, false, cond}
@@ -39,6 +39,10 @@ newlines-most : (d : List ℕ) → newlines d ≤ length d
 unfolding newlines
 newlines-most [] = omega arith
 newlines-most (b ∷ d) = omega (arith, newline-most b, newlines-most d)
+
+pub line-least : (s : List ℕ) (at : ℕ) → 1 ≤ lineAt s at
+unfolding lineAt
+line-least s at = omega arith
 
 pub line-most : (s : List ℕ) (at : ℕ) → lineAt s at ≤ length s + 1
 unfolding lineAt

@@ -1,4 +1,5 @@
--- A number that is written is read back: at any index, behind it any byte that is no digit (`read-back`).
+-- A number that is written is read back: at any index, behind it any byte that is no digit (`read-back`), and as no number that another
+-- byte should end (`number-other`).
 --   Digits s          == every byte of s is a digit
 --   count-append      == the digits in front and then those of the rest are counted
 --   value-append      == and the rest goes on with their value
@@ -14,9 +15,10 @@ use native.Mathlib.Omega.{arith}
 use borrow.Author.Tests.{lt-ltb, le-ltb, le-leb, eq-eqb, ne-eqb}
 use lib.ListN.{length, drop, getD, length-append, List·getD-append}
 use lib.Seq.{getD-append-seam}
+use lib.Dec.{eqb}
 use Rattle.text.specs.Scan.{isDigit, canonical, digitCount, value, leading, numberAt}
 use Rattle.text.specs.Decimal.{decimal}
-use Rattle.text.specs.declared.read.Number.the-variants.{Value}
+use Rattle.text.specs.declared.read.Number.the-variants.{Value, Bad}
 use Rattle.text.proofs.Decimals.{decimal-small, decimal-more, decimal-each, decimal-some, decimal-lead}
 
 abbrev Digits : List ℕ → Type 0
@@ -108,3 +110,7 @@ module _ (n e : ℕ) (rest : List ℕ) (h : isDigit e ≡ false) where
         List·getD-append (decimal n) (e ∷ rest) 0 0 (decimal-some n),
         decimal-canonical n,
       )
+
+  pub number-other : (s : List ℕ) (at f : ℕ) → drop at s ≡ whole → eqb e f ≡ false → numberAt s at f ≡ Bad
+  unfolding numberAt leading
+  number-other s at f k other = rw (k, whole-count, lt-ltb _ _ whole-longer, getD-append-seam (decimal n) e rest 0, other)

@@ -4,7 +4,7 @@ use mathlib.Core.List.{List}
 use Prim.Native.Nat.{ℕ, _-_, _≤_}
 use native.Mathlib.Omega.{arith}
 use Rattle.reader.specs.Blocks.{roadStep, roadBlock}
-use Rattle.reader.specs.declared.line.Line.{Line}
+use Rattle.text.specs.declared.line.Line.{Line}
 use Rattle.reader.proofs.Lines.{byte}
 use Rattle.reader.proofs.Filling.{rest, rest-step, rest-end}
 use Rattle.reader.proofs.Steps.{roadsIn, roads-start, road-step}

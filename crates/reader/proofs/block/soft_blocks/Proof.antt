@@ -5,7 +5,7 @@ use Prim.Native.Nat.{ℕ, _-_, _≤_}
 use native.Mathlib.Omega.{arith}
 use Rattle.automata.specs.declared.Automaton.{Automaton}
 use Rattle.reader.specs.Blocks.{softStep, softBlocks}
-use Rattle.reader.specs.declared.line.Line.{Line}
+use Rattle.text.specs.declared.line.Line.{Line}
 use Rattle.reader.proofs.Filling.{rest, rest-step, rest-end}
 use Rattle.reader.proofs.Steps.{softsIn, softs-start, soft-step}
 use borrow.Author.Needs.{needs}

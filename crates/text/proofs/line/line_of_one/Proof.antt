@@ -1,9 +1,9 @@
 -- `line_of_one` meets its contract: each return is the line by its last number.
 use Rattle.text.proofs.Held.{first-held, held-bad, held-told}
-use Rattle.reader.proofs.Lines.{one-fault, one-bad, one-good, one-is}
+use Rattle.text.proofs.Lines.{one-fault, one-bad, one-good, one-is}
 use borrow.Author.Needs.{needs}
-use Rattle.reader.proofs.line.line_of_one.Statement.{statement}
-use Rattle.reader.proofs.line.line_of_one.Tie as tie
+use Rattle.text.proofs.line.line_of_one.Statement.{statement}
+use Rattle.text.proofs.line.line_of_one.Tie as tie
 
 -- the places that the answers refer to: where the line begins, and where its last number was read
 abbrev opened : tie.After-key-at → tie.After-prior

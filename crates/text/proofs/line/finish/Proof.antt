@@ -1,9 +1,9 @@
 -- `finish` meets its contract: each return is one case of its definition.
 use borrow.Author.Tests.{lt-ltb, le-ltb}
-use Rattle.reader.specs.Line.{finish}
+use Rattle.text.specs.Line.{finish}
 use borrow.Author.Needs.{needs}
-use Rattle.reader.proofs.line.finish.Statement.{statement}
-use Rattle.reader.proofs.line.finish.Tie as tie
+use Rattle.text.proofs.line.finish.Statement.{statement}
+use Rattle.text.proofs.line.finish.Tie as tie
 
 returns : tie.Need-returns
 unfolding finish

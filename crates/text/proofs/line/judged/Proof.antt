@@ -1,7 +1,7 @@
 -- `judged` meets its contract: each return is one case of its definition.
 use borrow.Author.Needs.{needs}
-use Rattle.reader.proofs.line.judged.Statement.{statement}
-use Rattle.reader.proofs.line.judged.Tie as tie
+use Rattle.text.proofs.line.judged.Statement.{statement}
+use Rattle.text.proofs.line.judged.Tie as tie
 
 returns : tie.Need-returns
 returns c = rw (c .if1 .taken)

@@ -1,7 +1,7 @@
 -- `numbers_of` meets its contract: each return is one case of its definition.
 use borrow.Author.Needs.{needs}
-use Rattle.reader.proofs.line.numbers_of.Statement.{statement}
-use Rattle.reader.proofs.line.numbers_of.Tie as tie
+use Rattle.text.proofs.line.numbers_of.Statement.{statement}
+use Rattle.text.proofs.line.numbers_of.Tie as tie
 
 returns-2 : tie.Need-returns-2
 returns-2 c = rw (c .before .enum-told .given .1, c .pair .ensures)

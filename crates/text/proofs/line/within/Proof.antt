@@ -1,8 +1,8 @@
 -- `within` meets its contract: each return is one case of its first test.
 use borrow.Author.Tests.{lt-ltb, le-ltb}
-use Rattle.reader.specs.Line.{within}
-use Rattle.reader.proofs.line.within.Statement.{statement}
-use Rattle.reader.proofs.line.within.Tie as tie
+use Rattle.text.specs.Line.{within}
+use Rattle.text.proofs.line.within.Statement.{statement}
+use Rattle.text.proofs.line.within.Tie as tie
 
 returns : tie.Need-returns
 unfolding within
