@@ -1,4 +1,5 @@
 //! What the planner answers: as the sixteen bytes of the answer block, and as the six lines of a text.
+use text::read::wide;
 use text::write::put_list_line;
 use text::write::put_number_line;
 ghost use mathlib.Core.Path.{_≡_};
@@ -22,7 +23,7 @@ pub struct Answer {
 }
 
 // The n lowest bytes of x, the lowest first, from `at` on.
-fn put_little(block: &mut [u8], at: usize, n: usize, x: u32)
+pub fn put_wide(block: &mut [u8], at: usize, n: usize, x: u64)
     requires { ⌜ at + n ≤ length (now block) ⌝ }
     ensures { λ _. ⌜ Wrote (now (block .entry)) at (little n x) (now (block .exit)) (at + n) ⌝ }
 {
@@ -33,6 +34,14 @@ fn put_little(block: &mut [u8], at: usize, n: usize, x: u32)
         rest = rest / 256;
         i += 1;
     }
+}
+
+// The same of a number of 32 bits.
+pub fn put_little(block: &mut [u8], at: usize, n: usize, x: u32)
+    requires { ⌜ at + n ≤ length (now block) ⌝ }
+    ensures { λ _. ⌜ Wrote (now (block .entry)) at (little n x) (now (block .exit)) (at + n) ⌝ }
+{
+    put_wide(block, at, n, wide(x));
 }
 
 // The answer block (01, "For the host and for the rig"): the first 16 bytes of `block`. Its later bytes are unchanged.

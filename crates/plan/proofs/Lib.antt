@@ -8,3 +8,4 @@ pub mod Repeats
 pub mod Charging
 pub mod Counts
 pub mod Rooms
+pub mod Numbers

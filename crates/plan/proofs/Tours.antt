@@ -1,18 +1,24 @@
 -- Laws of tours, and two readings of 01 that the definitions shut out.
---   best-kept   == demand 3 to the letter: the best set against the kept byte of every tour that the hard rule accepts
---   lone-place  == a lone place is the loop of a tour, whatever its run-in, only where a road leads from it to itself
---   no-road-out == a place without a road out is on no tour
+--   best-kept               == demand 3 to the letter: the best set against the kept byte of every tour that the hard rule accepts
+--   lone-place              == a lone place is the loop of a tour, whatever its run-in, only where a road leads from it to itself
+--   no-road-out             == a place without a road out is on no tour
+--   stem-under, cycle-under == the places of a tour are places of the plan
 use mathlib.Core.Path.{_≡_, ap, _∙_}
 use mathlib.Core.Bool.{true, false}
 use mathlib.Core.Logic.{_⊎_}
 use mathlib.Core.List.{List, [], _∷_}
 use Prim.Native.Nat.{ℕ, suc, _+_, _-_, _%_, _≤_, _<_}
+use native.Mathlib.Nat.{mod-eq-of-lt, add-sub-cancel-left}
 use native.Mathlib.Omega.{arith}
 use lib.ListN.{length, getD}
+use borrow.Author.Tests.{eqb-true}
+use Rattle.text.specs.List.{under}
+use Rattle.text.proofs.Lists.{under-intro}
 use Rattle.automata.specs.Acceptance.{lassoAt}
-use Rattle.base.proofs.Tests.{false-not-true}
-use Rattle.automata.proofs.Lassos.{lasso-cycle}
-use Rattle.plan.specs.Tour.{IsLasso, Hard, joins}
+use Rattle.base.proofs.Tests.{false-not-true, any-elim, and-left}
+use Rattle.automata.proofs.Lassos.{lasso-stem, lasso-cycle}
+use Rattle.plan.specs.WellFormed.{WellFormed}
+use Rattle.plan.specs.Tour.{IsLasso, Hard, roadCount, isRoad, joins}
 use Rattle.plan.specs.Cost.{KeptIs, Better, Best}
 use Rattle.plan.specs.declared.Plan.{Plan}
 
@@ -29,3 +35,24 @@ module _ (p : Plan) where
   pub no-road-out : (v : ℕ) → ((w : ℕ) → joins p v w ≡ false) → (stem cycle : List ℕ) → IsLasso p stem cycle
       → (t : ℕ) → t < length stem + length cycle → lassoAt stem cycle t ≡ v → ⊥
   no-road-out v stuck stem cycle lasso t h e = false-not-true (rw e at (lasso .roads t h)) (stuck (lassoAt stem cycle (suc t)))
+
+-- every place of a tour is left by a road, and roads lead from places of the plan
+module _ (p : Plan) (ok : WellFormed p) where
+  road-from : (u v : ℕ) → joins p u v ≡ true → u < p .places
+  unfolding joins
+  road-from u v h =
+      let r = any-elim (isRoad p u v) (roadCount p) h in
+      omega (arith, ok .from (r .0), eqb-true (getD (p .from) (r .0) 0) u (and-left _ _ (r .2)))
+
+  module _ (stem cycle : List ℕ) (lasso : IsLasso p stem cycle) where
+    step-under : (t : ℕ) → t < length stem + length cycle → lassoAt stem cycle t < p .places
+    step-under t h = road-from (lassoAt stem cycle t) (lassoAt stem cycle (suc t)) (lasso .roads t h)
+
+    pub stem-under : under (p .places) stem ≡ true
+    stem-under = under-intro (p .places) stem (λ i h. rw (lasso-stem stem cycle i h) at (step-under i (omega arith)))
+
+    pub cycle-under : under (p .places) cycle ≡ true
+    cycle-under = under-intro (p .places) cycle (λ i h. rw (at i h) at (step-under (length stem + i) (omega arith)))
+      where
+        at : (i : ℕ) → i < length cycle → lassoAt stem cycle (length stem + i) ≡ getD cycle i 0
+        at i h = lasso-cycle stem cycle (length stem + i) (omega arith) ∙ rw (add-sub-cancel-left, mod-eq-of-lt h)

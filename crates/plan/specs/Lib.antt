@@ -1,4 +1,5 @@
 pub mod Refusal
+pub mod Answers
 pub mod WellFormed
 pub mod Size
 pub mod Tour

@@ -1,4 +1,5 @@
 //! A plan: places with labels, one-way roads, a start, a hard rule and up to eight soft rules with weights.
+pub mod kind;
 pub mod size;
 
 ghost use mathlib.Core.Path.{_≡_};
@@ -30,7 +31,7 @@ pub struct Plan {
     pub weights: [u32; 8],
 }
 
-// Why a plan is turned away; what it is numbered, and with which line it comes, is said in specs/Refusal.
+// Why a plan, or the text of an answer, is turned away; what it is numbered, and with which line it comes, is said in specs/Refusal.
 pub enum Refusal {
     PlanTooLong,
     Line(Fault),
@@ -38,6 +39,7 @@ pub enum Refusal {
     BufferTooShort,
     NoTour,
     BlockTooShort,
+    Contradiction,
 }
 
 // The number of a refusal.
@@ -51,6 +53,7 @@ pub fn refusal_number(refusal: Refusal) -> u32
         Refusal::BufferTooShort => 5,
         Refusal::NoTour => 6,
         Refusal::BlockTooShort => 7,
+        Refusal::Contradiction => 8,
     }
 }
 
@@ -65,6 +68,7 @@ pub fn refusal_line(refusal: Refusal) -> usize
         Refusal::BufferTooShort => 0,
         Refusal::NoTour => 0,
         Refusal::BlockTooShort => 0,
+        Refusal::Contradiction => 0,
     }
 }
 

@@ -5,3 +5,4 @@ pub mod Steps
 pub mod Verdicts
 pub mod Unique
 pub mod Bounds
+pub mod Sounds
