@@ -90,7 +90,7 @@ def soft_steps(automaton, label, q):
 
 
 def framed(contents):
-    """Plan files as the programs take them: of each its length in six digits, a line's end, and its bytes."""
+    """Texts as the programs take them: of each its length in six digits, a line's end, and its bytes."""
     return b"".join(b"%06d\n" % len(content) + content for content in contents)
 
 

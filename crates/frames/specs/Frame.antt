@@ -1,4 +1,4 @@
--- Frames of plan files.
+-- Frames of texts.
 --   lengthIn head        == the length that the first six bytes of a frame say
 --   Taken f before after == the buffer when frame f was taken: f's bytes are at its front, so many as f says; where there
 --                           was no frame, f has none and the buffer is as before. What stands on the input, no contract can say

@@ -1,4 +1,4 @@
-//! Plan files on standard input, one after the other, each in a frame: its length in six digits, a line's end, and its bytes.
+//! Texts on standard input, one after the other, each in a frame: its length in six digits, a line's end, and its bytes.
 use libc::STDIN_FILENO;
 ghost use mathlib.Core.Path.{_≡_};
 ghost use Prim.Native.Nat.{_-_, _≤_};

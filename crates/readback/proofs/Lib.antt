@@ -1,0 +1,4 @@
+pub mod ReadsBack
+pub mod PrintsBack
+pub mod Judging
+pub mod Blocks
