@@ -22,6 +22,22 @@ static void decodes_the_block(void) {
   assert(plantour_loop_length(block) == 20480);
 }
 
+static void decodes_the_reply(void) {
+  const uint8_t block[PLANTOUR_REPLY_BYTES] = {
+    3, 0x85, 6, 0, 1, 2, 3, 0x84, 5, 6, 7, 0x88, 9, 10, 11, 0x8c,
+    1, 2, 3, 4, 5, 6, 7, 0x88, 9, 8, 7, 6, 5, 4, 3, 0x82,
+  };
+  assert(plantour_reply_number(block) == PLANTOUR_RANGE);
+  assert(plantour_reply_kept(block) == 0x85);
+  assert(plantour_keeps(block, 1) && !plantour_keeps(block, 2));
+  assert(plantour_reply_answer(block) == PLANTOUR_NONE);
+  assert(plantour_reply_fault(block) == 0x84030201u);
+  assert(plantour_reply_cost(block) == 0x88070605u);
+  assert(plantour_reply_line(block) == 0x8c0b0a09u);
+  assert(plantour_reply_runin_length(block) == 0x8807060504030201u);
+  assert(plantour_reply_loop_length(block) == 0x8203040506070809u);
+}
+
 static void finds_where_upcoming_places_begin(void) {
   const uint64_t max = UINT64_MAX;
   assert(upcoming_offset(2, 3, 1) == 1 && upcoming_offset(2, 3, 2) == 0);
@@ -84,10 +100,43 @@ static void plans_with_the_least_buffers(void) {
   assert(answer[16] == 0xaa && loop[2] == 0xaa);
 }
 
+static const char text[] =
+  "answer=0\nline=0\ncost=4\nkept=13\nrunin=5,127\nloop=0,1,2\n";
+
+static void reads_an_answer(void) {
+  uint8_t reply[PLANTOUR_REPLY_BYTES + 1], runin[3], loop[4];
+  memset(reply, 0xaa, sizeof reply);
+  memset(runin, 0xaa, sizeof runin);
+  memset(loop, 0xaa, sizeof loop);
+  const uint8_t *bytes = (const uint8_t *)text;
+  size_t length = sizeof text - 1;
+  assert(read_answer(bytes, length, reply, 31, runin, 3, loop, 4) == PLANTOUR_BLOCK);
+  assert(reply[0] == 0xaa && runin[0] == 0xaa && loop[0] == 0xaa);
+  assert(read_answer(bytes, length, reply, 32, runin, 2, loop, 2) == PLANTOUR_BUFFER);
+  assert(reply[0] == PLANTOUR_BUFFER && runin[0] == 0xaa && loop[0] == 0xaa);
+  assert(read_answer(bytes, length, reply, 32, runin, 3, loop, 3) == PLANTOUR_OK);
+  assert(plantour_reply_answer(reply) == 0 && plantour_reply_line(reply) == 0);
+  assert(plantour_reply_cost(reply) == 4 && plantour_reply_kept(reply) == 13);
+  assert(plantour_reply_runin_length(reply) == 2 && plantour_reply_loop_length(reply) == 3);
+  assert(runin[0] == 5 && runin[1] == 127 && runin[2] == 0xaa);
+  assert(loop[0] == 0 && loop[1] == 1 && loop[2] == 2 && loop[3] == 0xaa);
+  assert(read_answer(bytes, length - 1, reply, 32, runin, 3, loop, 3) == PLANTOUR_FORM);
+  assert(plantour_reply_fault(reply) == 6 && plantour_reply_runin_length(reply) == 0);
+  assert(read_answer(bytes, 0, reply, 32, runin, 0, loop, 0) == PLANTOUR_FORM);
+  assert(plantour_reply_fault(reply) == 1);
+  const char clash[] = "answer=4\nline=3\ncost=0\nkept=0\nrunin=\nloop=\n";
+  bytes = (const uint8_t *)clash;
+  assert(read_answer(bytes, sizeof clash - 1, reply, 32, runin, 0, loop, 0) == PLANTOUR_CLASH);
+  assert(plantour_reply_fault(reply) == 0 && plantour_reply_answer(reply) == 0);
+  assert(reply[32] == 0xaa);
+}
+
 int main(void) {
   decodes_the_block();
+  decodes_the_reply();
   finds_where_upcoming_places_begin();
   serves_upcoming_places();
   plans_with_the_least_buffers();
+  reads_an_answer();
   return 0;
 }

@@ -8,7 +8,8 @@
 ** and again without end.  The cost is the sum of the weights of the soft
 ** rules that the tour breaks.  Of two tours of equal cost the better one keeps
 ** the lowest-numbered rule on which they differ.  While the tour is driven,
-** plantour_upcoming() gives the places that come next.
+** plantour_upcoming() gives the places that come next.  read_answer() loads an
+** answer again that the program plantour printed.
 **
 ** The caller lends the memory for the plan, the answer and the tour; the
 ** library holds on to none of it after the call.
@@ -71,19 +72,24 @@ extern "C" {
 ** A longer plan than PLANTOUR_PLAN_BYTES is refused.  So a host may read a
 ** file of unknown length into PLANTOUR_PLAN_BYTES + 1 bytes and pass what
 ** fitted: whatever did not fit would have been refused just so.
+**
+** No text that the program plantour prints has more than PLANTOUR_TEXT_BYTES.
 */
 #define PLANTOUR_ANSWER_BYTES 16
+#define PLANTOUR_REPLY_BYTES  32
 #define PLANTOUR_PLAN_BYTES   60000
 #define PLANTOUR_MAX_N        2048
 #define PLANTOUR_RUNIN_BYTES  2048
 #define PLANTOUR_LOOP_BYTES   20480
+#define PLANTOUR_TEXT_BYTES   90240
 
 /*
 ** The stack that a call of plan_tour() needs, in bytes: what was measured on
-** plans of all kinds, and some to spare.  A thread that calls it should have
-** more, for itself.
+** plans of all kinds, and some to spare; then that of read_answer().  A thread
+** that calls them should have more, for itself.
 */
-#define PLANTOUR_STACK_BYTES  819200
+#define PLANTOUR_STACK_BYTES      819200
+#define PLANTOUR_READ_STACK_BYTES 4096
 
 /*
 ** What plan_tour() returns.  Of several causes the first in this order counts:
@@ -102,6 +108,12 @@ extern "C" {
 #define PLANTOUR_BUFFER 5 /* runin_len is below N or loop_len below (K+2)*N */
 #define PLANTOUR_NONE   6 /* the hard rule accepts no tour of this plan */
 #define PLANTOUR_BLOCK  7 /* answer_len is below PLANTOUR_ANSWER_BYTES */
+
+/*
+** What read_answer() returns besides: PLANTOUR_OK, PLANTOUR_FORM,
+** PLANTOUR_RANGE, PLANTOUR_BUFFER, PLANTOUR_BLOCK, or
+*/
+#define PLANTOUR_CLASH  8 /* the lines of the text contradict each other */
 
 /*
 ** Plans one tour.
@@ -174,6 +186,106 @@ static inline size_t plantour_loop_length(const uint8_t *answer) {
 /* Whether soft rule 'rule', from 1 to 8, accepts the tour. */
 static inline int plantour_keeps(const uint8_t *answer, unsigned rule) {
   return answer[1] >> (rule - 1) & 1;
+}
+
+/*
+** Reads the text of an answer: the six lines that the program plantour prints,
+** each ended by byte 10, without spaces and in this order.  Numbers are decimal
+** without a leading zero.
+**
+**     answer=N     0 for a tour, or 1 to 6, the number of the refusal
+**     line=L       the faulty line of the plan, 0 to 65,535
+**     cost=C       0 to 32,000,000
+**     kept=K       0 to 255
+**     runin=A,B,.. the places of the run-in, each 0 to 127; perhaps none
+**     loop=A,B,..  the places of the loop, likewise
+**
+** text, text_len      The bytes of the text; only read.  Any length will do,
+**                     also 0, and so do lists of any length.
+**
+** reply, reply_len    The block for the reply.  Its first 32 bytes are filled on
+**                     every return but PLANTOUR_BLOCK; later bytes are never
+**                     touched.
+**
+** runin, runin_len    The buffer for the run-in, one byte for each place.
+** loop, loop_len      The buffer for the loop, likewise.
+**                     On PLANTOUR_OK the first bytes of the two hold the lists;
+**                     their lengths are in the block.  Bytes beyond those
+**                     lengths are not touched.  On any other return neither
+**                     buffer is touched.
+**
+** No pointer may be null, not even one with a length of 0, and no two of the
+** four stretches may overlap.
+**
+** Of several causes the first in this order counts: PLANTOUR_BLOCK (reply_len
+** is below PLANTOUR_REPLY_BYTES); the first faulty line, PLANTOUR_FORM before
+** PLANTOUR_RANGE on the same line; PLANTOUR_BUFFER (a list is longer than its
+** buffer); PLANTOUR_CLASH.  The lines contradict each other if answer 0 stands
+** beside an empty loop or a line other than 0; if another answer stands beside
+** a cost, a kept or a list that is not 0 or empty; if 2 or 3 stands beside line
+** 0, or 1, 4, 5 or 6 beside another line.  Missing lines and bytes after the
+** sixth line are faults of form, these of line 7.
+**
+** Returns 0 or the number of the refusal.  On PLANTOUR_BLOCK that number is all
+** and no byte has been written.  Otherwise the block has:
+**
+**     byte 0       the number returned
+**     byte 1       kept
+**     byte 2       the answer's own number: PLANTOUR_OK for a tour
+**     byte 3       0
+**     bytes 4-7    the faulty line of the text, from 1; 0 if none is at fault
+**     bytes 8-11   cost
+**     bytes 12-15  the answer's own line
+**     bytes 16-23  places in the run-in
+**     bytes 24-31  places in the loop
+**
+** Numbers of several bytes have the lowest byte first.  On a refusal all but
+** the number and the faulty line are 0.  A text that says why a plan was turned
+** away is no refusal: it is read, and byte 2 has its number.
+*/
+uint32_t read_answer(const uint8_t *text, size_t text_len,
+                     uint8_t *reply, size_t reply_len,
+                     uint8_t *runin, size_t runin_len,
+                     uint8_t *loop, size_t loop_len);
+
+/*
+** The parts of a reply's block, on a machine of any byte order.
+** plantour_keeps() serves this block too.
+*/
+static inline uint32_t plantour_reply_number(const uint8_t *reply) {
+  return reply[0];
+}
+static inline uint32_t plantour_reply_kept(const uint8_t *reply) {
+  return reply[1];
+}
+static inline uint32_t plantour_reply_answer(const uint8_t *reply) {
+  return reply[2];
+}
+static inline uint32_t plantour_reply_fault(const uint8_t *reply) {
+  return (uint32_t)reply[4] | (uint32_t)reply[5] << 8
+       | (uint32_t)reply[6] << 16 | (uint32_t)reply[7] << 24;
+}
+static inline uint32_t plantour_reply_cost(const uint8_t *reply) {
+  return (uint32_t)reply[8] | (uint32_t)reply[9] << 8
+       | (uint32_t)reply[10] << 16 | (uint32_t)reply[11] << 24;
+}
+static inline uint32_t plantour_reply_line(const uint8_t *reply) {
+  return (uint32_t)reply[12] | (uint32_t)reply[13] << 8
+       | (uint32_t)reply[14] << 16 | (uint32_t)reply[15] << 24;
+}
+static inline uint64_t plantour_reply_runin_length(const uint8_t *reply) {
+  uint64_t length = 0;
+  for (int i = 7; i >= 0; i--) {
+    length = length << 8 | reply[16 + i];
+  }
+  return length;
+}
+static inline uint64_t plantour_reply_loop_length(const uint8_t *reply) {
+  uint64_t length = 0;
+  for (int i = 7; i >= 0; i--) {
+    length = length << 8 | reply[24 + i];
+  }
+  return length;
 }
 
 /*

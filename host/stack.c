@@ -1,11 +1,11 @@
 /*
-** stack.c - how much stack a call of plan_tour() uses
+** stack.c - how much stack a call of plan_tour() uses, and of read_answer()
 **
 **     stack FILE...
 **
 ** Plans each file on a stack of its own, painted before the call, and prints
-** the most bytes that were painted over.  Ends with 1 if that is more than
-** plantour.h says.
+** the most bytes that were painted over; then reads an answer on it.  Ends
+** with 1 if either is more than plantour.h says.
 */
 #define _XOPEN_SOURCE 700
 #include "plantour.h"
@@ -23,13 +23,22 @@ static uint8_t loop[PLANTOUR_LOOP_BYTES];
 static uint8_t room[4 << 20];
 static ucontext_t here, there;
 
-static void call(void) {
+static void plan_it(void) {
   plan_tour(plan, plan_len, answer, sizeof answer, runin, sizeof runin, loop,
             sizeof loop);
 }
 
+static const char text[] =
+  "answer=0\nline=0\ncost=4\nkept=13\nrunin=0,1,3\nloop=5,6,0,1,3\n";
+static uint8_t reply[PLANTOUR_REPLY_BYTES];
+
+static void read_it(void) {
+  read_answer((const uint8_t *)text, sizeof text - 1, reply, sizeof reply,
+              runin, sizeof runin, loop, sizeof loop);
+}
+
 /* The bytes from the lowest one painted over to the top. */
-static size_t used(uint8_t paint) {
+static size_t used(void (*call)(void), uint8_t paint) {
   size_t untouched = 0;
   memset(room, paint, sizeof room);
   if (getcontext(&there) != 0) {
@@ -48,6 +57,12 @@ static size_t used(uint8_t paint) {
   return sizeof room - untouched;
 }
 
+/* With two paints, since a byte may be written over with the first. */
+static size_t most_used(void (*call)(void)) {
+  size_t one = used(call, 0xA5), two = used(call, 0x5A);
+  return one > two ? one : two;
+}
+
 int main(int argc, char **argv) {
   size_t most = 0;
   for (int i = 1; i < argc; i++) {
@@ -58,12 +73,13 @@ int main(int argc, char **argv) {
     }
     plan_len = fread(plan, 1, sizeof plan, file);
     fclose(file);
-    /* Two paints, since a byte may be written over with the first. */
-    size_t one = used(0xA5), two = used(0x5A);
-    most = most > one ? most : one;
-    most = most > two ? most : two;
+    size_t bytes = most_used(plan_it);
+    most = most > bytes ? most : bytes;
   }
+  size_t reading = most_used(read_it);
   printf("%zu bytes of stack at most, %zu are stated\n", most,
          (size_t)PLANTOUR_STACK_BYTES);
-  return most > PLANTOUR_STACK_BYTES;
+  printf("%zu to read an answer, %zu are stated\n", reading,
+         (size_t)PLANTOUR_READ_STACK_BYTES);
+  return most > PLANTOUR_STACK_BYTES || reading > PLANTOUR_READ_STACK_BYTES;
 }

@@ -1,6 +1,6 @@
 //! The reference as a static library with the exported names of `plantour.h`.
 
-use reference::{entry, upcoming};
+use reference::{answers, entry, upcoming};
 use std::slice::{from_raw_parts, from_raw_parts_mut};
 
 /// # Safety
@@ -30,4 +30,27 @@ pub unsafe extern "C" fn plan_tour(
 #[unsafe(no_mangle)]
 pub extern "C" fn upcoming_offset(runin_length: u64, loop_length: u64, t: u64) -> u64 {
     upcoming::upcoming_offset(runin_length, loop_length, t)
+}
+
+/// # Safety
+/// As for `plan_tour`.
+#[unsafe(no_mangle)]
+pub unsafe extern "C" fn read_answer(
+    text: *const u8,
+    text_len: usize,
+    block: *mut u8,
+    block_len: usize,
+    runin: *mut u8,
+    runin_len: usize,
+    cycle: *mut u8,
+    cycle_len: usize,
+) -> u32 {
+    unsafe {
+        answers::read_answer(
+            from_raw_parts(text, text_len),
+            from_raw_parts_mut(block, block_len),
+            from_raw_parts_mut(runin, runin_len),
+            from_raw_parts_mut(cycle, cycle_len),
+        )
+    }
 }

@@ -1,2 +1,3 @@
 -- The promises of the entries, from what the parts ensure.
 pub mod Blocks
+pub mod RoundTrip

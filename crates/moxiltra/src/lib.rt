@@ -3,8 +3,10 @@ use answer::put_block;
 use plan::Refusal;
 use plan::refusal_number;
 use planner::file_answer;
+use readback::put_reply;
+use readback::reply_number;
 ghost use Rattle.serve.specs.Upcoming.{Offset};
-ghost use Rattle.moxiltra.specs.Entries.{buffers, Promise};
+ghost use Rattle.moxiltra.specs.Entries.{buffers, Promise, Reading};
 
 // Plans a tour. Returns 0 or the number of the refusal, and fills the first 16 bytes of the answer block. A tour is written
 // over the front of run-in and loop buffer; on a refusal no byte of them changes.
@@ -32,4 +34,23 @@ pub extern "C" fn upcoming_offset(runin: u64, cycle: u64, t: u64) -> u64
     ensures { λ r. ⌜ Offset runin cycle t r ⌝ }
 {
     serve::offset(runin, cycle, t)
+}
+
+// Reads the text of an answer, as program plantour prints it. Returns 0 or the number of the refusal, and fills the first 32
+// bytes of the block. The places are written over the front of run-in and loop buffer; on a refusal no byte of them changes.
+#[no_mangle]
+pub extern "C" fn read_answer(
+    text: &[u8],
+    block: &mut [u8],
+    runin: &mut [u8],
+    cycle: &mut [u8],
+) -> u32
+    ensures { λ r. ⌜ Reading (now (text .entry)) (buffers (now (block .entry)) (now (runin .entry)) (now (cycle .entry))) (buffers (now (block .exit)) (now (runin .exit)) (now (cycle .exit))) r ⌝ }
+{
+    if block.len() < 32 {
+        return refusal_number(Refusal::BlockTooShort);
+    }
+    let reply = readback::read_answer(text, runin, cycle);
+    put_reply(reply, block);
+    reply_number(reply)
 }

@@ -10,8 +10,9 @@ use crate::random::Random;
 use crate::rules::{again, always, go, go_any, never, once, soft_rules, some_rule};
 use crate::shapes::{large, Shape, SHAPES};
 
-/// A file to plan, bytes that lie behind it in memory but are not part of it,
-/// and how many bytes lie on either side of each buffer at least.
+/// A file to plan, or a text to read as an answer, bytes that lie behind it in
+/// memory but are not part of it, and how many bytes lie on either side of each
+/// buffer at least.
 pub struct Case {
     pub kind: String,
     pub file: Vec<u8>,

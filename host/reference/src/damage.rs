@@ -1,5 +1,5 @@
-//! Faulty files, made from good ones. Some harms leave a file good; what each
-//! file deserves, the reader says.
+//! Faulty files and texts, made from good ones. Some harms leave a file good;
+//! what each file deserves, the reader says.
 
 use crate::plan::MAX_PLAN_BYTES;
 use crate::random::Random;
@@ -119,7 +119,7 @@ pub fn damage(text: &[u8], random: &mut Random) -> Harmed {
                 70_000,
             ]);
             let filler = if random.once_in(2) { file[at] } else { b'1' };
-            let more = length - file.len();
+            let more = length.saturating_sub(file.len());
             file.splice(at..at, std::iter::repeat_n(filler, more));
             "stretched"
         }

@@ -9,6 +9,7 @@ use crate::library::{Library, REFERENCE};
 use crate::plan::Plan;
 use crate::random::Random;
 use crate::reader::read;
+use crate::reading::check_read_back;
 use crate::reply::{Found, Lengths, Reply};
 use crate::serving::follow;
 use crate::tally::Tally;
@@ -103,6 +104,10 @@ fn one_call(
     own.agrees(&reference).map_err(with_lengths)?;
     if let Some((run_in, cycle)) = own.tour() {
         follow(library, run_in, cycle, salt, tally)?;
+    }
+    if let Some(answer) = own.answer() {
+        let more = salt as usize % 4;
+        check_read_back(library, &answer, case.margin, more, tally)?;
     }
     Ok(found)
 }

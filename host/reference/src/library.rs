@@ -3,6 +3,7 @@
 //! Built with MOXILTRA_ARCHIVE set it is the entries of that archive, otherwise
 //! the stand-in: the reference itself.
 
+use crate::answers;
 use crate::entry;
 use crate::upcoming;
 
@@ -11,6 +12,7 @@ use crate::upcoming;
 pub struct Library {
     pub plan_tour: PlanTour,
     pub upcoming_offset: UpcomingOffset,
+    pub read_answer: ReadAnswer,
 }
 
 /// On plan, answer block, run-in and loop.
@@ -19,9 +21,13 @@ pub type PlanTour = fn(&[u8], &mut [u8], &mut [u8], &mut [u8]) -> u32;
 /// On the length of the run-in, the length of the loop, and the step.
 pub type UpcomingOffset = fn(u64, u64, u64) -> u64;
 
+/// On text, block, run-in and loop.
+pub type ReadAnswer = fn(&[u8], &mut [u8], &mut [u8], &mut [u8]) -> u32;
+
 pub const REFERENCE: Library = Library {
     plan_tour: entry::plan_tour,
     upcoming_offset: upcoming::upcoming_offset,
+    read_answer: answers::read_answer,
 };
 
 #[cfg(not(archive))]
@@ -33,6 +39,7 @@ pub const NAME: &str = "stand-in";
 pub const LIBRARY: Library = Library {
     plan_tour: archive::plan_tour,
     upcoming_offset: archive::upcoming_offset,
+    read_answer: archive::read_answer,
 };
 #[cfg(archive)]
 pub const NAME: &str = env!("MOXILTRA_ARCHIVE");
@@ -52,6 +59,16 @@ mod archive {
                 cycle_len: usize,
             ) -> u32;
             pub fn upcoming_offset(runin_length: u64, loop_length: u64, t: u64) -> u64;
+            pub fn read_answer(
+                text: *const u8,
+                text_len: usize,
+                block: *mut u8,
+                block_len: usize,
+                runin: *mut u8,
+                runin_len: usize,
+                cycle: *mut u8,
+                cycle_len: usize,
+            ) -> u32;
         }
     }
 
@@ -72,5 +89,20 @@ mod archive {
 
     pub fn upcoming_offset(runin_length: u64, loop_length: u64, t: u64) -> u64 {
         unsafe { c::upcoming_offset(runin_length, loop_length, t) }
+    }
+
+    pub fn read_answer(text: &[u8], block: &mut [u8], runin: &mut [u8], cycle: &mut [u8]) -> u32 {
+        unsafe {
+            c::read_answer(
+                text.as_ptr(),
+                text.len(),
+                block.as_mut_ptr(),
+                block.len(),
+                runin.as_mut_ptr(),
+                runin.len(),
+                cycle.as_mut_ptr(),
+                cycle.len(),
+            )
+        }
     }
 }

@@ -5,7 +5,8 @@ use std::ops::RangeInclusive;
 
 type Range = RangeInclusive<u64>;
 
-/// Why a plan is turned away; a line is counted from 1.
+/// Why a plan, or the text of an answer, is turned away; a line is counted
+/// from 1.
 #[derive(Clone, Copy, Debug, PartialEq, Eq)]
 pub enum Refusal {
     TooLong,
@@ -14,6 +15,7 @@ pub enum Refusal {
     TooLarge,
     Buffer,
     NoTour,
+    Contradiction,
 }
 
 impl Refusal {
@@ -25,6 +27,7 @@ impl Refusal {
             Refusal::TooLarge => 4,
             Refusal::Buffer => 5,
             Refusal::NoTour => 6,
+            Refusal::Contradiction => 8,
         }
     }
 
@@ -184,7 +187,7 @@ fn values(line: &[u8], key: &str) -> Option<Vec<u64>> {
 
 /// A decimal number without a leading zero. One with more digits than fit
 /// becomes the largest there is, which is outside every range.
-fn number(text: &[u8]) -> Option<u64> {
+pub fn number(text: &[u8]) -> Option<u64> {
     if text.is_empty() || (text[0] == b'0' && text.len() > 1) {
         return None;
     }

@@ -1,7 +1,9 @@
 //! A call with guarded buffers, and what must hold of all it leaves behind.
 
+use crate::answers::Answer;
 use crate::cases::Case;
 use crate::entry::{Block, BLOCK_BYTES};
+use crate::lent::Lent;
 use crate::library::Library;
 use crate::plan::Plan;
 use crate::tour::judge;
@@ -16,47 +18,6 @@ pub struct Lengths {
 
 /// What a call answered: what it keeps and its number of places, if a tour.
 pub type Found = Option<(u8, usize)>;
-
-/// A buffer between two margins, perhaps of no bytes, all filled with a
-/// pattern. No byte of the pattern is a place.
-struct Lent {
-    bytes: Vec<u8>,
-    filled: Vec<u8>,
-    from: usize,
-    length: usize,
-}
-
-impl Lent {
-    fn new(salt: u8, length: usize, margin: usize) -> Lent {
-        let from = if margin == 0 {
-            0
-        } else {
-            margin + salt as usize % 8
-        };
-        let pattern = |i: usize| (i as u8).wrapping_mul(37).wrapping_add(salt) | 0x80;
-        let filled: Vec<u8> = (0..from + length + margin).map(pattern).collect();
-        Lent {
-            bytes: filled.clone(),
-            filled,
-            from,
-            length,
-        }
-    }
-
-    fn lend(&mut self) -> &mut [u8] {
-        &mut self.bytes[self.from..self.from + self.length]
-    }
-
-    fn content(&self) -> &[u8] {
-        &self.bytes[self.from..self.from + self.length]
-    }
-
-    /// Nothing was written but, perhaps, the first `written` bytes.
-    fn unchanged_beyond(&self, written: usize) -> bool {
-        let (start, end) = (self.from, self.from + written);
-        self.bytes[..start] == self.filled[..start] && self.bytes[end..] == self.filled[end..]
-    }
-}
 
 /// Everything a call leaves behind.
 pub struct Reply {
@@ -132,7 +93,7 @@ impl Reply {
             ));
         }
         let (run_in, cycle) = (block.run_in as usize, block.cycle as usize);
-        if run_in > self.run_in.length || cycle > self.cycle.length {
+        if run_in > self.run_in.content().len() || cycle > self.cycle.content().len() {
             return Err(format!("lengths {run_in}, {cycle} beyond the buffers"));
         }
         if !self.run_in.unchanged_beyond(run_in) || !self.cycle.unchanged_beyond(cycle) {
@@ -176,6 +137,21 @@ impl Reply {
             &self.run_in.content()[..block.run_in as usize],
             &self.cycle.content()[..block.cycle as usize],
         ))
+    }
+
+    /// The answer that `plantour` would print, once the call is known to be
+    /// sound. There is none without a block.
+    pub fn answer(&self) -> Option<Answer> {
+        let block = self.block()?;
+        let (run_in, cycle) = self.tour().unwrap_or_default();
+        Some(Answer {
+            number: block.number,
+            line: block.line,
+            cost: block.cost,
+            kept: block.kept,
+            run_in: run_in.to_vec(),
+            cycle: cycle.to_vec(),
+        })
     }
 
     /// The block without the tour's lengths, which are free.

@@ -1,12 +1,18 @@
 //! What a comparison has met, and what it should have met.
 
+use crate::answers::LINES;
+use crate::batches::GENERATED;
 use crate::plan::Plan;
 use crate::shapes::SHAPES;
+use crate::texts::FIXED;
 use std::collections::BTreeMap;
 use std::fmt;
 
 /// From this N on a plan is near the bound.
 pub const NEAR: u64 = 1_536;
+
+/// The numbers that `read_answer` gives.
+const READ: [u32; 6] = [0, 2, 3, 5, 7, 8];
 
 /// How often each thing was done.
 #[derive(Default)]
@@ -31,6 +37,14 @@ pub struct Tally {
     pub tried: usize,
     pub settled: usize,
     pub tied: usize,
+    /// Calls of `read_answer` by the number returned and the faulty line; those
+    /// with 5 whose lines contradict each other besides; the texts read, by
+    /// their kind; planner's tours and refusals that were printed and read back.
+    pub reads: BTreeMap<(u32, u32), usize>,
+    pub hidden: usize,
+    pub fixed_texts: BTreeMap<String, usize>,
+    pub generated_texts: BTreeMap<String, usize>,
+    pub read_back: [usize; 2],
 }
 
 impl Tally {
@@ -58,6 +72,54 @@ impl Tally {
         }
     }
 
+    pub fn read(&mut self, number: u32, line: u32) {
+        *self.reads.entry((number, line)).or_default() += 1;
+    }
+
+    pub fn fixed_text(&mut self, kind: &str) {
+        *self.fixed_texts.entry(kind.into()).or_default() += 1;
+    }
+
+    pub fn generated_text(&mut self, kind: &str) {
+        *self.generated_texts.entry(kind.into()).or_default() += 1;
+    }
+
+    /// Calls of `read_answer` with this number.
+    fn read_with(&self, number: u32) -> usize {
+        let rows = self.reads.iter().filter(|((given, _), _)| *given == number);
+        rows.map(|(_, count)| count).sum()
+    }
+
+    /// What a run of some length should have met of `read_answer`.
+    fn reading(&self) -> Vec<(String, usize)> {
+        let mut all = Vec::new();
+        for number in READ {
+            let what = format!("the number {number} of read_answer");
+            all.push((what, self.read_with(number)));
+        }
+        let lines = LINES.len() as u32;
+        let form = (1..=lines + 1).map(|line| (2, line));
+        let range = (1..=lines).map(|line| (3, line));
+        for (number, line) in form.chain(range) {
+            let count = self.reads.get(&(number, line)).copied().unwrap_or(0);
+            let what = format!("the number {number} of read_answer for line {line}");
+            all.push((what, count));
+        }
+        all.push(("a contradiction behind 5".into(), self.hidden));
+        for kind in FIXED {
+            let count = self.fixed_texts.get(kind).copied().unwrap_or(0);
+            all.push((format!("a fixed text: {kind}"), count));
+        }
+        for (kind, _) in GENERATED {
+            let count = self.generated_texts.get(kind).copied().unwrap_or(0);
+            all.push((format!("a generated text: {kind}"), count));
+        }
+        for (what, count) in ["tour", "refusal"].into_iter().zip(self.read_back) {
+            all.push((format!("a planner's {what} read back"), count));
+        }
+        all
+    }
+
     /// What a run of some length should have met and has not.
     pub fn lacks(&self) -> Vec<String> {
         let numbers = (0..8).map(|number| (format!("the number {number}"), self.calls[number]));
@@ -73,7 +135,7 @@ impl Tally {
             ("a tour with a run-in".into(), self.followed[0]),
             ("a tour without a run-in".into(), self.followed[1]),
         ];
-        let all = numbers.chain(shapes).chain(others);
+        let all = numbers.chain(shapes).chain(others).chain(self.reading());
         all.filter(|(_, count)| *count == 0)
             .map(|(what, _)| what)
             .collect()
@@ -107,6 +169,18 @@ impl fmt::Display for Tally {
             f,
             "offsets of upcoming places: {}; tours followed: {} with a run-in, {} without",
             self.offsets, self.followed[0], self.followed[1]
+        )?;
+        let numbers = READ.map(|number| format!("{} gave {number}", self.read_with(number)));
+        let sum = |texts: &BTreeMap<String, usize>| texts.values().sum::<usize>();
+        writeln!(
+            f,
+            "texts read: {} fixed, {} generated; planner's answers read back: {} tours, {} refusals\n\
+             calls to read: {}",
+            sum(&self.fixed_texts),
+            sum(&self.generated_texts),
+            self.read_back[0],
+            self.read_back[1],
+            numbers.join(", ")
         )?;
         write!(
             f,

@@ -4,22 +4,26 @@
 //!
 //! First come the figures of 01, where upcoming places begin for some hundred
 //! thousand lengths and steps, files with buffers of every length about the
-//! limits, and two plans harmed in every way of some kinds; then cases in the
-//! order of their numbers, from CASE (0 if not given) on, until S seconds (20)
-//! have passed or COUNT cases are done. A case is the same on every run. With
+//! limits, two plans harmed in every way of some kinds, and texts to read as
+//! answers; then cases in the order of their numbers, from CASE (0 if not given)
+//! on, until S seconds (20) have passed or COUNT cases are done. A case is a
+//! plan and a batch of texts to read, the same on every run. With
 //! --bare nothing lies about the plan and the buffers: a checker of memory then
 //! sees each step beyond them. With --trace each case is told before its first
-//! call. The first difference is printed with its case and its plan, and the
-//! program ends with 1; without one it ends with 0 after a tally. A run of 20
+//! call. The first difference is printed with its case and its plan or text, and
+//! the program ends with 1; without one it ends with 0 after a tally. A run of 20
 //! seconds and more, not bounded by COUNT, also ends with 1 if something that
 //! it should have met is missing in the tally.
 
+use reference::batches::batch;
 use reference::cases::{case, harmed_cases, limit_cases, Case};
 use reference::figures::figures;
 use reference::harness::{check, check_figure, check_limits, check_once};
-use reference::library::{LIBRARY, NAME};
+use reference::library::{Library, LIBRARY, NAME};
+use reference::reading::{check_chance_text, check_text, check_text_blocks, check_text_buffers};
 use reference::serving::{check_case_9, check_offsets};
 use reference::tally::Tally;
+use reference::texts::{block_texts, buffer_texts, fixed_texts};
 use std::process::exit;
 use std::sync::Mutex;
 use std::time::{Duration, Instant};
@@ -41,6 +45,9 @@ const FULL: u64 = 20;
 /// The case at work, for the watch.
 static AT_WORK: Mutex<String> = Mutex::new(String::new());
 
+/// So many bytes of a plan or text are printed at most.
+const SHOWN: usize = 70_000;
+
 /// A case that takes longer than this is taken for one without end.
 const PATIENCE: Duration = Duration::from_secs(120);
 
@@ -59,28 +66,53 @@ fn main() {
     });
     for figure in figures() {
         let name = format!("figure {} of 01", figure.name);
-        options.put(&name, Some(&figure.file), || check_figure(LIBRARY, &figure));
+        options.put(&name, Some(("plan", &figure.file)), || {
+            check_figure(LIBRARY, &figure)
+        });
     }
     for case in limit_cases() {
         let (name, case) = (format!("limits of {}", case.kind), options.lay(case));
-        options.put(&name, Some(&case.file), || {
+        options.put(&name, Some(("plan", &case.file)), || {
             check_limits(LIBRARY, &case, &mut tally)
         });
     }
     for case in harmed_cases() {
         let (name, case) = (case.kind.clone(), options.lay(case));
-        options.put(&name, Some(&case.file), || {
+        options.put(&name, Some(("plan", &case.file)), || {
             check_once(LIBRARY, &case, &mut tally)
         });
+    }
+    let texts: [(_, TextCheck); 3] = [
+        (block_texts(), check_text_blocks),
+        (buffer_texts(), check_text_buffers),
+        (fixed_texts(), check_text),
+    ];
+    for (cases, check) in texts {
+        for case in cases {
+            let (name, case) = (format!("text, {}", case.kind), options.lay(case));
+            options.put(&name, Some(("text", &case.file)), || {
+                check(LIBRARY, &case, &mut tally)
+            });
+        }
     }
     let end = options.first.saturating_add(options.cases);
     let mut number = options.first;
     while number < end && begin.elapsed() < Duration::from_secs(options.seconds) {
         let (case, mut random) = case(number);
         let (name, case) = (format!("case {number}, {}", case.kind), options.lay(case));
-        options.put(&name, Some(&case.file), || {
+        options.put(&name, Some(("plan", &case.file)), || {
             check(LIBRARY, &case, &mut random, &mut tally)
         });
+        let (texts, mut random) = batch(number);
+        for text in texts {
+            let (name, text) = (
+                format!("case {number}, text, {}", text.kind),
+                options.lay(text),
+            );
+            options.put(&name, Some(("text", &text.file)), || {
+                check_chance_text(LIBRARY, &text, &mut random, &mut tally)
+            });
+        }
         number += 1;
     }
 
@@ -98,6 +130,8 @@ fn main() {
     );
 }
 
+type TextCheck = fn(Library, &Case, &mut Tally) -> Result<(), String>;
+
 impl Options {
     fn lay(&self, case: Case) -> Case {
         if self.bare {
@@ -107,17 +141,23 @@ impl Options {
         }
     }
 
-    /// Ends the program at a difference.
-    fn put(&self, name: &str, file: Option<&[u8]>, check: impl FnOnce() -> Result<(), String>) {
+    /// Ends the program at a difference. A file is given with what it is.
+    fn put(
+        &self,
+        name: &str,
+        file: Option<(&str, &[u8])>,
+        check: impl FnOnce() -> Result<(), String>,
+    ) {
         *AT_WORK.lock().unwrap() = name.into();
         if self.trace {
             eprintln!("{name}");
         }
         if let Err(what) = check() {
             println!("compare: {NAME}: difference at {name}\n{what}");
-            if let Some(file) = file {
-                let text = file.escape_ascii().to_string().replace("\\n", "\n");
-                println!("plan, {} bytes:\n{text}", file.len());
+            if let Some((what, file)) = file {
+                let shown = &file[..file.len().min(SHOWN)];
+                let text = shown.escape_ascii().to_string().replace("\\n", "\n");
+                println!("{what}, {} bytes:\n{text}", file.len());
             }
             exit(1)
         }
