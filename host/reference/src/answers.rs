@@ -69,7 +69,8 @@ impl Answer {
     }
 }
 
-fn joined(places: &[u8]) -> String {
+/// The places with commas between them.
+pub fn joined(places: &[u8]) -> String {
     let mut list = String::new();
     for place in places {
         let comma = if list.is_empty() { "" } else { "," };

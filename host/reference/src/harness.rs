@@ -138,7 +138,7 @@ pub fn check_figure(library: Library, figure: &Figure) -> Result<(), String> {
 }
 
 /// Buffers of just the lengths that the plan asks for.
-fn exact(plan: Option<&Plan>) -> Lengths {
+pub fn exact(plan: Option<&Plan>) -> Lengths {
     let (run_in, cycle) = plan.map_or((2_048, 20_480), |plan| (plan.size(), plan.cycle_bound()));
     Lengths {
         answer: BLOCK_BYTES,

@@ -34,6 +34,17 @@ impl Lent {
         &self.bytes[self.from..self.from + self.length]
     }
 
+    /// The first so many bytes of the content, or all if it has fewer.
+    pub fn first(&self, count: usize) -> &[u8] {
+        let content = self.content();
+        &content[..count.min(content.len())]
+    }
+
+    /// All bytes, margins and all.
+    pub fn bytes(&self) -> &[u8] {
+        &self.bytes
+    }
+
     /// The same bytes as in another buffer, margins and all.
     pub fn same(&self, other: &Lent) -> bool {
         self.bytes == other.bytes

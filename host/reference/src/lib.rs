@@ -28,6 +28,7 @@
 //! | `serving` | upcoming places, by numbers and along the tours answered |
 //! | `reading` | one text put to both readers, the answers set side by side |
 //! | `tally` | what a comparison has met, and what it should have met |
+//! | `transcript` | a library's answers to generated plans, written down with their places |
 
 pub mod answers;
 pub mod batches;
@@ -56,4 +57,5 @@ pub mod slips;
 pub mod tally;
 pub mod texts;
 pub mod tour;
+pub mod transcript;
 pub mod upcoming;

@@ -130,12 +130,24 @@ impl Reply {
         Ok(Some((block.kept, run_in + cycle)))
     }
 
-    /// Run-in and loop of a tour, once it is known to be sound.
+    /// What is lent as the block.
+    pub fn block_bytes(&self) -> &[u8] {
+        self.answer.content()
+    }
+
+    /// All bytes of block, run-in and loop, margins and all.
+    pub fn lent_bytes(&self) -> impl Iterator<Item = &u8> {
+        let all = [&self.answer, &self.run_in, &self.cycle];
+        all.into_iter().flat_map(Lent::bytes)
+    }
+
+    /// Run-in and loop of a tour. A call that is not sound may tell lengths
+    /// beyond its buffers; then there is as much as they hold.
     pub fn tour(&self) -> Option<(&[u8], &[u8])> {
         let block = self.block().filter(|block| block.number == 0)?;
         Some((
-            &self.run_in.content()[..block.run_in as usize],
-            &self.cycle.content()[..block.cycle as usize],
+            self.run_in.first(block.run_in as usize),
+            self.cycle.first(block.cycle as usize),
         ))
     }
 

@@ -1,6 +1,7 @@
 //! Holds the library against the reference on fixed and generated cases.
 //!
 //!     compare [--seconds S] [--first CASE] [--cases COUNT] [--bare] [--trace]
+//!     compare --transcript COUNT [--first CASE]
 //!
 //! First come the figures of 01, where upcoming places begin for some hundred
 //! thousand lengths and steps, files with buffers of every length about the
@@ -14,6 +15,12 @@
 //! the program ends with 1; without one it ends with 0 after a tally. A run of 20
 //! seconds and more, not bounded by COUNT, also ends with 1 if something that
 //! it should have met is missing in the tally.
+//!
+//! With --transcript nothing is compared: what the library answers to the plans
+//! of COUNT cases, from CASE on, is written down with its places, a line for
+//! each. The lines depend on the library alone, so those of two versions of it
+//! can be compared. At the end the standard error gets a line of how many plans
+//! had which answers.
 
 use reference::batches::batch;
 use reference::cases::{case, harmed_cases, limit_cases, Case};
@@ -24,6 +31,8 @@ use reference::reading::{check_chance_text, check_text, check_text_blocks, check
 use reference::serving::{check_case_9, check_offsets};
 use reference::tally::Tally;
 use reference::texts::{block_texts, buffer_texts, fixed_texts};
+use reference::transcript::Transcript;
+use std::io::Write;
 use std::process::exit;
 use std::sync::Mutex;
 use std::time::{Duration, Instant};
@@ -34,10 +43,11 @@ struct Options {
     cases: u64,
     bare: bool,
     trace: bool,
+    transcript: Option<u64>,
 }
 
-const USAGE: &str =
-    "usage: compare [--seconds S] [--first CASE] [--cases COUNT] [--bare] [--trace]";
+const USAGE: &str = "usage: compare [--seconds S] [--first CASE] [--cases COUNT] [--bare] [--trace]
+       compare --transcript COUNT [--first CASE]";
 
 /// From so many seconds on a run should meet everything.
 const FULL: u64 = 20;
@@ -56,6 +66,12 @@ fn main() {
         eprintln!("compare: {what}\n{USAGE}");
         exit(2)
     });
+    if let Some(count) = options.transcript {
+        return transcript(options.first, count).unwrap_or_else(|what| {
+            eprintln!("compare: transcript: {what}");
+            exit(1)
+        });
+    }
     std::thread::spawn(watch);
     let mut tally = Tally::default();
     let begin = Instant::now();
@@ -130,6 +146,19 @@ fn main() {
     );
 }
 
+/// Writes down what the library answers to so many plans. Each line is out
+/// before the next call, so that the last one shows how far it came.
+fn transcript(first: u64, count: u64) -> std::io::Result<()> {
+    let mut transcript = Transcript::default();
+    let mut out = std::io::stdout().lock();
+    for number in first..first.saturating_add(count) {
+        writeln!(out, "{}", transcript.generated(LIBRARY, number))?;
+        out.flush()?;
+    }
+    eprintln!("compare: transcript: {transcript}");
+    Ok(())
+}
+
 type TextCheck = fn(Library, &Case, &mut Tally) -> Result<(), String>;
 
 impl Options {
@@ -189,7 +218,9 @@ fn options() -> Result<Options, String> {
         cases: u64::MAX,
         bare: false,
         trace: false,
+        transcript: None,
     };
+    let mut names = Vec::new();
     let mut arguments = std::env::args().skip(1);
     while let Some(name) = arguments.next() {
         let mut value = || {
@@ -202,8 +233,16 @@ fn options() -> Result<Options, String> {
             "--cases" => options.cases = value()?,
             "--bare" => options.bare = true,
             "--trace" => options.trace = true,
+            "--transcript" => options.transcript = Some(value()?),
             _ => return Err(format!("{name} is unknown")),
         }
+        names.push(name);
     }
-    Ok(options)
+    let other = |name: &&String| !["--transcript", "--first"].contains(&name.as_str());
+    match names.iter().find(other) {
+        Some(name) if options.transcript.is_some() => {
+            Err(format!("{name} does not go with --transcript"))
+        }
+        _ => Ok(options),
+    }
 }
