@@ -1,5 +1,5 @@
 -- The laws of the crate, for its own proofs and for the crates above.
-pub mod Courses
+pub mod Routes
 pub mod Meetings
 pub mod Scans
 pub mod Components

@@ -1,4 +1,4 @@
 pub mod Colours
-pub mod Course
+pub mod Route
 pub mod Component
 pub mod Drive
