@@ -2,19 +2,23 @@
 ** example.c - plans a file, or loads an answer, and looks at the tour, as a
 ** scene would
 **
-**     example FILE             plans the plan file
-**     example --answer FILE    loads the answer that plantour printed
+**     example PLAN                    plans the plan file
+**     example --answer ANSWER [PLAN]  loads the answer that plantour printed
 **
-** Prints the answer, and for a tour the places that come next at some steps.
-** Ends with 0 for a tour, 1 for a refusal, 2 if the file cannot be read.
+** Prints the answer, and for a tour what a check of it against the plan finds
+** and the places that come next at some steps.  Ends with 0 for a tour, 1 for a
+** refusal, 2 if a file cannot be read.
 */
 #include "plantour.h"
 
 #include <inttypes.h>
 #include <stdio.h>
+#include <stdlib.h>
 #include <string.h>
 
-static uint8_t bytes[PLANTOUR_TEXT_BYTES + 1];
+/* What is longer than a plan may be is refused, cut or not. */
+static uint8_t plan[PLANTOUR_PLAN_BYTES + 1];
+static uint8_t text[PLANTOUR_TEXT_BYTES + 1];
 static uint8_t runin[PLANTOUR_RUNIN_BYTES];
 static uint8_t loop[PLANTOUR_LOOP_BYTES];
 
@@ -28,6 +32,7 @@ static const char *const meaning[] = {
   "the hard rule accepts no tour",
   "the answer block is too short",
   "the lines contradict each other",
+  "the tour breaks",
 };
 
 /* The next 'count' places from step t, over as many turns as it takes. */
@@ -57,8 +62,8 @@ static int print_refusal(const char *what, uint32_t number, uint32_t line) {
 }
 
 /* The tour that stands in the buffers; kept is in byte 1 of either block. */
-static int print_tour(const uint8_t *block, uint32_t cost,
-                      size_t runin_length, size_t loop_length) {
+static void print_tour(const uint8_t *block, uint32_t cost,
+                       size_t runin_length, size_t loop_length) {
   printf("answer 0: %s\ncost %" PRIu32 ", soft rules kept:",
          meaning[PLANTOUR_OK], cost);
   for (unsigned rule = 1; rule <= 8; rule++) {
@@ -67,7 +72,9 @@ static int print_tour(const uint8_t *block, uint32_t cost,
     }
   }
   printf("\nrun-in %zu places, loop %zu\n", runin_length, loop_length);
+}
 
+static void print_steps(size_t runin_length, size_t loop_length) {
   const uint64_t steps[] = {
     0, 1, runin_length, (uint64_t)runin_length + loop_length - 1, 1000000000,
     UINT64_MAX - 11, /* the last steps that have a number */
@@ -75,28 +82,45 @@ static int print_tour(const uint8_t *block, uint32_t cost,
   for (size_t i = 0; i < sizeof steps / sizeof *steps; i++) {
     print_upcoming(runin_length, loop_length, steps[i], 12);
   }
-  return 0;
 }
 
-/* What is longer than a plan may be is refused, cut or not. */
-static int plan_file(size_t length) {
-  uint8_t answer[PLANTOUR_ANSWER_BYTES];
-  if (length > PLANTOUR_PLAN_BYTES + 1) {
-    length = PLANTOUR_PLAN_BYTES + 1;
+/* What the tour in the buffers is worth to the plan. */
+static void print_check(size_t plan_length, size_t runin_length,
+                        size_t loop_length) {
+  uint8_t check[PLANTOUR_CHECK_BYTES];
+  uint32_t number = check_tour(plan, plan_length, runin, runin_length,
+                               loop, loop_length, check, sizeof check);
+  if (number == PLANTOUR_OK) {
+    printf("checked: %s, cost %" PRIu32 "\n",
+           plantour_check_accepts(check) ? "accepted" : "not accepted",
+           plantour_check_cost(check));
+  } else if (number == PLANTOUR_BROKEN) {
+    printf("checked: %s at index %" PRIu64 "\n", meaning[number],
+           plantour_check_index(check));
+  } else {
+    print_refusal("checked:", number, plantour_check_line(check));
   }
-  uint32_t number = plan_tour(bytes, length, answer, sizeof answer,
+}
+
+static int plan_file(size_t plan_length) {
+  uint8_t answer[PLANTOUR_ANSWER_BYTES];
+  uint32_t number = plan_tour(plan, plan_length, answer, sizeof answer,
                               runin, sizeof runin, loop, sizeof loop);
   if (number != PLANTOUR_OK) {
     return print_refusal("answer", number, plantour_line(answer));
   }
-  return print_tour(answer, plantour_cost(answer),
-                    plantour_runin_length(answer),
-                    plantour_loop_length(answer));
+  size_t runin_length = plantour_runin_length(answer);
+  size_t loop_length = plantour_loop_length(answer);
+  print_tour(answer, plantour_cost(answer), runin_length, loop_length);
+  print_check(plan_length, runin_length, loop_length);
+  print_steps(runin_length, loop_length);
+  return 0;
 }
 
-static int load_answer(size_t length) {
+/* Without a plan, its length being NULL, the tour is not checked. */
+static int load_answer(size_t length, const size_t *plan_length) {
   uint8_t reply[PLANTOUR_REPLY_BYTES];
-  uint32_t number = read_answer(bytes, length, reply, sizeof reply,
+  uint32_t number = read_answer(text, length, reply, sizeof reply,
                                 runin, sizeof runin, loop, sizeof loop);
   if (number != PLANTOUR_OK) {
     return print_refusal("not an answer,", number,
@@ -106,29 +130,47 @@ static int load_answer(size_t length) {
     return print_refusal("answer", plantour_reply_answer(reply),
                          plantour_reply_line(reply));
   }
-  return print_tour(reply, plantour_reply_cost(reply),
-                    (size_t)plantour_reply_runin_length(reply),
-                    (size_t)plantour_reply_loop_length(reply));
+  size_t runin_length = (size_t)plantour_reply_runin_length(reply);
+  size_t loop_length = (size_t)plantour_reply_loop_length(reply);
+  print_tour(reply, plantour_reply_cost(reply), runin_length, loop_length);
+  if (plan_length != NULL) {
+    print_check(*plan_length, runin_length, loop_length);
+  }
+  print_steps(runin_length, loop_length);
+  return 0;
 }
 
-int main(int argc, char **argv) {
-  int load = argc == 3 && strcmp(argv[1], "--answer") == 0;
-  if (argc != 2 && !load) {
-    fprintf(stderr, "usage: example [--answer] FILE\n");
-    return 2;
-  }
-  const char *name = argv[argc - 1];
+/* Reads at most 'most' bytes; ends the program if that fails. */
+static size_t read_file(const char *name, uint8_t *bytes, size_t most) {
   FILE *file = fopen(name, "rb");
   if (file == NULL) {
     perror(name);
-    return 2;
+    exit(2);
   }
-  size_t length = fread(bytes, 1, sizeof bytes, file);
+  size_t length = fread(bytes, 1, most, file);
   int failed = ferror(file);
   fclose(file);
   if (failed) {
     fprintf(stderr, "%s: cannot be read\n", name);
+    exit(2);
+  }
+  return length;
+}
+
+int main(int argc, char **argv) {
+  int load = argc > 2 && strcmp(argv[1], "--answer") == 0;
+  if (argc != 2 && !(load && argc <= 4)) {
+    fprintf(stderr, "usage: example PLAN\n"
+                    "       example --answer ANSWER [PLAN]\n");
     return 2;
   }
-  return load ? load_answer(length) : plan_file(length);
+  size_t plan_length = 0;
+  if (!load || argc == 4) {
+    plan_length = read_file(argv[argc - 1], plan, sizeof plan);
+  }
+  if (!load) {
+    return plan_file(plan_length);
+  }
+  size_t length = read_file(argv[2], text, sizeof text);
+  return load_answer(length, argc == 4 ? &plan_length : NULL);
 }

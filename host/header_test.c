@@ -38,6 +38,20 @@ static void decodes_the_reply(void) {
   assert(plantour_reply_loop_length(block) == 0x8203040506070809u);
 }
 
+static void decodes_the_check(void) {
+  const uint8_t block[PLANTOUR_CHECK_BYTES] = {
+    9, 0x85, 1, 0, 1, 2, 3, 0x84, 5, 6, 7, 0x88, 0, 0, 0, 0,
+    1, 2, 3, 4, 5, 6, 7, 0x88,
+  };
+  assert(plantour_check_number(block) == PLANTOUR_BROKEN);
+  assert(plantour_check_kept(block) == 0x85);
+  assert(plantour_keeps(block, 1) && !plantour_keeps(block, 2));
+  assert(plantour_check_accepts(block));
+  assert(plantour_check_line(block) == 0x84030201u);
+  assert(plantour_check_cost(block) == 0x88070605u);
+  assert(plantour_check_index(block) == 0x8807060504030201u);
+}
+
 static void finds_where_upcoming_places_begin(void) {
   const uint64_t max = UINT64_MAX;
   assert(upcoming_offset(2, 3, 1) == 1 && upcoming_offset(2, 3, 2) == 0);
@@ -131,12 +145,86 @@ static void reads_an_answer(void) {
   assert(reply[32] == 0xaa);
 }
 
+/*
+** Two places with a road each way, the second of which has the mark.  The hard
+** rule accepts nothing; the soft rules are "never the mark" and "the mark again
+** and again".
+*/
+static const char marked[] =
+  "tour=1\nmarks=1\nplaces=2\nlabel=0\nlabel=1\nstart=0\n"
+  "roads=2\nroad=0,1\nroad=1,0\n"
+  "hard=1\nfirst=0\naccept=0\nmoves=1\nmove=0,0,0,0\nrules=2\n"
+  "soft=1\nweight=3\nfirst=0\naccept=1\nmoves=1\nmove=0,0,1,0\n"
+  "soft=2\nweight=5\nfirst=0\naccept=2\nmoves=4\n"
+  "move=0,1,0,1\nmove=0,0,1,0\nmove=1,1,0,1\nmove=1,0,1,0\n";
+
+/* So many of these places are the run-in, and so many behind them the loop. */
+static uint32_t checked(uint8_t *check, const uint8_t *places,
+                        size_t runin_length, size_t loop_length) {
+  return check_tour((const uint8_t *)marked, sizeof marked - 1,
+                    places, runin_length, places + runin_length, loop_length,
+                    check, PLANTOUR_CHECK_BYTES);
+}
+
+static void breaks_at(uint64_t index, const uint8_t *places,
+                      size_t runin_length, size_t loop_length) {
+  uint8_t check[PLANTOUR_CHECK_BYTES];
+  memset(check, 0xaa, sizeof check);
+  assert(checked(check, places, runin_length, loop_length) == PLANTOUR_BROKEN);
+  assert(plantour_check_number(check) == PLANTOUR_BROKEN);
+  assert(plantour_check_index(check) == index && plantour_check_line(check) == 0);
+  assert(plantour_check_cost(check) == 0 && plantour_check_kept(check) == 0);
+  assert(!plantour_check_accepts(check));
+}
+
+static void finds_where_a_tour_breaks(void) {
+  const uint8_t round[] = {0, 1, 0, 1}, unknown[] = {0, 1, 2, 1};
+  const uint8_t far[] = {255}, late[] = {1, 0}, stays[] = {0, 1, 1, 0};
+  breaks_at(0, round, 0, 0);
+  breaks_at(4, round, 4, 0);
+  breaks_at(1, round, 0, 1);
+  breaks_at(4, round, 1, 3);
+  breaks_at(2, unknown, 1, 3);
+  breaks_at(2, unknown, 4, 0);
+  breaks_at(0, far, 0, 1);
+  breaks_at(0, late, 1, 1);
+  breaks_at(2, stays, 0, 4);
+  breaks_at(2, stays, 2, 2);
+}
+
+static void checks_a_tour(void) {
+  uint8_t check[PLANTOUR_CHECK_BYTES + 1];
+  memset(check, 0xaa, sizeof check);
+  const uint8_t *bytes = (const uint8_t *)plan;
+  size_t length = sizeof plan - 1;
+  const uint8_t place = 0, round[] = {0, 1, 0, 1};
+  assert(check_tour(bytes, length, &place, 1, &place, 1, check, 23) == PLANTOUR_BLOCK);
+  assert(check[0] == 0xaa && check[22] == 0xaa);
+  /* Both lists are only read, so they may be the same. */
+  assert(check_tour(bytes, length, &place, 1, &place, 1, check, 24) == PLANTOUR_OK);
+  assert(plantour_check_accepts(check) && plantour_check_cost(check) == 0);
+  assert(check_tour(bytes, length - 1, &place, 0, &place, 0, check, 24) == PLANTOUR_FORM);
+  assert(plantour_check_line(check) == 13 && plantour_check_index(check) == 0);
+  assert(check_tour(bytes, 0, &place, 0, &place, 1, check, 24) == PLANTOUR_FORM);
+  assert(plantour_check_line(check) == 1 && !plantour_check_accepts(check));
+  /* Not accepted, and yet it has its cost. */
+  assert(checked(check, round, 0, 2) == PLANTOUR_OK);
+  assert(!plantour_check_accepts(check) && plantour_check_cost(check) == 3);
+  assert(plantour_check_kept(check) == 2 && plantour_check_line(check) == 0);
+  assert(checked(check, round, 2, 2) == PLANTOUR_OK);
+  assert(plantour_check_cost(check) == 3 && plantour_check_index(check) == 0);
+  assert(check[24] == 0xaa);
+}
+
 int main(void) {
   decodes_the_block();
   decodes_the_reply();
+  decodes_the_check();
   finds_where_upcoming_places_begin();
   serves_upcoming_places();
   plans_with_the_least_buffers();
   reads_an_answer();
+  finds_where_a_tour_breaks();
+  checks_a_tour();
   return 0;
 }

@@ -9,7 +9,8 @@
 ** rules that the tour breaks.  Of two tours of equal cost the better one keeps
 ** the lowest-numbered rule on which they differ.  While the tour is driven,
 ** plantour_upcoming() gives the places that come next.  read_answer() loads an
-** answer again that the program plantour printed.
+** answer again that the program plantour printed.  check_tour() tells what a
+** tour is worth, whoever made it: drawn by hand, or planned for another plan.
 **
 ** The caller lends the memory for the plan, the answer and the tour; the
 ** library holds on to none of it after the call.
@@ -77,6 +78,7 @@ extern "C" {
 */
 #define PLANTOUR_ANSWER_BYTES 16
 #define PLANTOUR_REPLY_BYTES  32
+#define PLANTOUR_CHECK_BYTES  24
 #define PLANTOUR_PLAN_BYTES   60000
 #define PLANTOUR_MAX_N        2048
 #define PLANTOUR_RUNIN_BYTES  2048
@@ -85,11 +87,12 @@ extern "C" {
 
 /*
 ** The stack that a call of plan_tour() needs, in bytes: what was measured on
-** plans of all kinds, and some to spare; then that of read_answer().  A thread
-** that calls them should have more, for itself.
+** plans of all kinds, and some to spare; then that of read_answer(), and that of
+** check_tour().  A thread that calls them should have more, for itself.
 */
-#define PLANTOUR_STACK_BYTES      819200
-#define PLANTOUR_READ_STACK_BYTES 4096
+#define PLANTOUR_STACK_BYTES       819200
+#define PLANTOUR_READ_STACK_BYTES  4096
+#define PLANTOUR_CHECK_STACK_BYTES 131072
 
 /*
 ** What plan_tour() returns.  Of several causes the first in this order counts:
@@ -114,6 +117,12 @@ extern "C" {
 ** PLANTOUR_RANGE, PLANTOUR_BUFFER, PLANTOUR_BLOCK, or
 */
 #define PLANTOUR_CLASH  8 /* the lines of the text contradict each other */
+
+/*
+** What check_tour() returns besides: PLANTOUR_OK, PLANTOUR_LONG, PLANTOUR_FORM,
+** PLANTOUR_RANGE, PLANTOUR_LARGE, PLANTOUR_BLOCK, or
+*/
+#define PLANTOUR_BROKEN 9 /* the tour breaks; the block has the index */
 
 /*
 ** Plans one tour.
@@ -286,6 +295,91 @@ static inline uint64_t plantour_reply_loop_length(const uint8_t *reply) {
     length = length << 8 | reply[24 + i];
   }
   return length;
+}
+
+/*
+** Checks a tour: whether the hard rule accepts it, what it costs and which soft
+** rules it keeps.  The planner's own tours are accepted, at the planner's cost.
+**
+** plan, plan_len      The bytes of the plan file, as for plan_tour(); only read.
+**
+** runin, runin_len    The places of the run-in, one byte for each; only read.
+** loop, loop_len      The places of the loop, likewise.
+**                     Any lengths will do, also 0, and so will any bytes.
+**
+** check, check_len    The block for what is found.  Its first 24 bytes are
+**                     filled on every return but PLANTOUR_BLOCK; later bytes
+**                     are never touched.
+**
+** No pointer may be null, not even one with a length of 0, and the block may
+** overlap none of the other three stretches.
+**
+** Of several causes the first in this order counts: PLANTOUR_BLOCK (check_len
+** is below PLANTOUR_CHECK_BYTES); PLANTOUR_LONG; the first faulty line of the
+** plan, PLANTOUR_FORM before PLANTOUR_RANGE on the same line; PLANTOUR_LARGE;
+** PLANTOUR_BROKEN.  A tour that the hard rule does not accept is no refusal:
+** PLANTOUR_OK is returned, byte 2 is 0, and cost and kept are those of the tour.
+**
+** PLANTOUR_BROKEN means that the two lists are no tour of this plan.  Places are
+** counted from 0, through the run-in and on through the loop, and the block has
+** the least of these indices:
+**
+**   - of a place that is none of the plan's, its own;
+**   - of a first place that is not the start, 0;
+**   - of a place to which no road leads from the one before, its own;
+**   - of an empty loop, the number of places in the run-in;
+**   - of a loop without a road from its last place to its first, the number of
+**     places in both lists.
+**
+** Of two empty lists it is 0.  One that 64 bits cannot hold is given as 2^64-1.
+**
+** Returns 0 or the number of the refusal.  On PLANTOUR_BLOCK that number is all
+** and no byte has been written.  Otherwise the block has:
+**
+**     byte 0       the number returned
+**     byte 1       kept: bit i-1 is set if soft rule i accepts the tour
+**     byte 2       1 if the hard rule accepts the tour, 0 if not
+**     byte 3       0
+**     bytes 4-7    the faulty line of the plan, from 1; 0 if none is at fault
+**     bytes 8-11   cost
+**     bytes 12-15  0
+**     bytes 16-23  the index that breaks the tour; 0 if none does
+**
+** Numbers of several bytes have the lowest byte first.  On a refusal all but
+** the number, the line and the index are 0.
+*/
+uint32_t check_tour(const uint8_t *plan, size_t plan_len,
+                    const uint8_t *runin, size_t runin_len,
+                    const uint8_t *loop, size_t loop_len,
+                    uint8_t *check, size_t check_len);
+
+/*
+** The parts of a check's block, on a machine of any byte order.
+** plantour_keeps() serves this block too.
+*/
+static inline uint32_t plantour_check_number(const uint8_t *check) {
+  return check[0];
+}
+static inline uint32_t plantour_check_kept(const uint8_t *check) {
+  return check[1];
+}
+static inline int plantour_check_accepts(const uint8_t *check) {
+  return check[2];
+}
+static inline uint32_t plantour_check_line(const uint8_t *check) {
+  return (uint32_t)check[4] | (uint32_t)check[5] << 8
+       | (uint32_t)check[6] << 16 | (uint32_t)check[7] << 24;
+}
+static inline uint32_t plantour_check_cost(const uint8_t *check) {
+  return (uint32_t)check[8] | (uint32_t)check[9] << 8
+       | (uint32_t)check[10] << 16 | (uint32_t)check[11] << 24;
+}
+static inline uint64_t plantour_check_index(const uint8_t *check) {
+  uint64_t index = 0;
+  for (int i = 7; i >= 0; i--) {
+    index = index << 8 | check[16 + i];
+  }
+  return index;
 }
 
 /*

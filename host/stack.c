@@ -1,11 +1,12 @@
 /*
-** stack.c - how much stack a call of plan_tour() uses, and of read_answer()
+** stack.c - how much stack the calls use: plan_tour(), read_answer() and
+** check_tour()
 **
 **     stack FILE...
 **
-** Plans each file on a stack of its own, painted before the call, and prints
-** the most bytes that were painted over; then reads an answer on it.  Ends
-** with 1 if either is more than plantour.h says.
+** Plans each file on a stack of its own, painted before the call, and checks
+** the tour on another, and prints the most bytes that were painted over; then
+** reads an answer on one.  Ends with 1 if any is more than plantour.h says.
 */
 #define _XOPEN_SOURCE 700
 #include "plantour.h"
@@ -26,6 +27,14 @@ static ucontext_t here, there;
 static void plan_it(void) {
   plan_tour(plan, plan_len, answer, sizeof answer, runin, sizeof runin, loop,
             sizeof loop);
+}
+
+static uint8_t check[PLANTOUR_CHECK_BYTES];
+
+/* The tour that was planned; after a refusal, two empty lists. */
+static void check_it(void) {
+  check_tour(plan, plan_len, runin, plantour_runin_length(answer),
+             loop, plantour_loop_length(answer), check, sizeof check);
 }
 
 static const char text[] =
@@ -64,7 +73,7 @@ static size_t most_used(void (*call)(void)) {
 }
 
 int main(int argc, char **argv) {
-  size_t most = 0;
+  size_t most = 0, checking = 0;
   for (int i = 1; i < argc; i++) {
     FILE *file = fopen(argv[i], "rb");
     if (file == NULL) {
@@ -75,11 +84,16 @@ int main(int argc, char **argv) {
     fclose(file);
     size_t bytes = most_used(plan_it);
     most = most > bytes ? most : bytes;
+    bytes = most_used(check_it);
+    checking = checking > bytes ? checking : bytes;
   }
   size_t reading = most_used(read_it);
   printf("%zu bytes of stack at most, %zu are stated\n", most,
          (size_t)PLANTOUR_STACK_BYTES);
   printf("%zu to read an answer, %zu are stated\n", reading,
          (size_t)PLANTOUR_READ_STACK_BYTES);
-  return most > PLANTOUR_STACK_BYTES || reading > PLANTOUR_READ_STACK_BYTES;
+  printf("%zu to check a tour, %zu are stated\n", checking,
+         (size_t)PLANTOUR_CHECK_STACK_BYTES);
+  return most > PLANTOUR_STACK_BYTES || reading > PLANTOUR_READ_STACK_BYTES
+      || checking > PLANTOUR_CHECK_STACK_BYTES;
 }

@@ -1,4 +1,4 @@
-"""Plans as the tools that write stored cases have them (paper 01, "The plan file"; 02, note 1): automata, plan files and frames.
+"""Plans as the tools that write stored cases have them (paper 01, "The plan file"; 02, note 1): automata, plan files, tours and frames.
 
 A plan is a dict: marks, labels, start, roads, the hard automaton, and the soft rules as pairs of automaton and weight."""
 import os
@@ -87,6 +87,84 @@ def steps(automaton, label, q):
 def soft_steps(automaton, label, q):
     """The same for a soft rule, whose trap is one state more: it is entered where no move fits, and never left."""
     return steps(automaton, label, q) or {automaton.states}
+
+
+def size(p):
+    n = len(p["labels"]) * p["hard"].states
+    for a, _ in p["soft"]:
+        n *= a.states + 1
+    return n
+
+
+def accepts(a, ditch, runin, loop):
+    """Whether the automaton accepts the labels of run-in and loop, by the scope's definition: a state after the run-in leads, in
+    the graph of the loop's positions with the states, to an accepting state that leads back to itself. A soft automaton that has
+    no move goes to the ditch, the state after its own, which never accepts. It shares nothing with `steps`."""
+
+    def follow(x, q):
+        # A move of four numbers has any 0, and then every label will do.
+        five = [move if len(move) == 5 else move[:3] + (0,) + move[3:] for move in a.moves]
+        fitting = {r for f, need, bar, any_of, r in five if f == q and need & ~x == 0 and bar & x == 0 and not (any_of and any_of & x == 0)}
+        return fitting if fitting or not ditch else {a.states}
+
+    def onward(i, q):
+        return [((i + 1) % len(loop), r) for r in follow(loop[i], q)]
+
+    def reached(todo):
+        seen = set()
+        while todo:
+            node = todo.pop()
+            if node not in seen:
+                seen.add(node)
+                todo += onward(*node)
+        return seen
+
+    states = {a.first}
+    for x in runin:
+        states = {r for q in states for r in follow(x, q)}
+    accepting = {q for q in range(a.states) if a.accept >> q & 1}
+    return any(q in accepting and (i, q) in reached(onward(i, q)) for i, q in reached([(0, q) for q in states]))
+
+
+def breaks(p, runin, loop):
+    """The indices that break a tour (02, note 4)."""
+    places, total = runin + loop, len(runin) + len(loop)
+    for i, v in enumerate(places):
+        if v >= len(p["labels"]) or (v != p["start"] if i == 0 else (places[i - 1], v) not in p["roads"]):
+            yield i
+    if not loop:
+        yield len(runin)
+    elif (loop[-1], loop[0]) not in p["roads"]:
+        yield total
+
+
+def due(p, runin, loop):
+    """Number, line, index, accepts, cost and kept of a tour of a plan that was read."""
+    if size(p) > 2048:
+        return (4, 0, 0, 0, 0, 0)
+    broken = min(breaks(p, runin, loop), default=None)
+    if broken is not None:
+        return (9, 0, broken, 0, 0, 0)
+    words = [[p["labels"][v] for v in part] for part in (runin, loop)]
+    kept = [accepts(a, True, *words) for a, _ in p["soft"]]
+    cost = sum(w for (_, w), keeps in zip(p["soft"], kept) if not keeps)
+    return (0, 0, 0, int(accepts(p["hard"], False, *words)), cost, sum(1 << i for i, keeps in enumerate(kept) if keeps))
+
+
+def walk(p, rng, most):
+    """A closed walk of the plan as run-in and loop, if chance finds one."""
+    places, at = [p["start"]], {p["start"]: [0]}
+    for i in range(1, most):
+        onward = [b for a, b in p["roads"] if a == places[-1]]
+        if not onward:
+            return None
+        v = rng.choice(onward)
+        if v in at and rng.random() < 0.3:
+            k = rng.choice(at[v])
+            return places[:k], places[k:]
+        places.append(v)
+        at.setdefault(v, []).append(i)
+    return None
 
 
 def framed(contents):

@@ -1,6 +1,6 @@
 //! The reference as a static library with the exported names of `plantour.h`.
 
-use reference::{answers, entry, upcoming};
+use reference::{answers, checker, entry, upcoming};
 use std::slice::{from_raw_parts, from_raw_parts_mut};
 
 /// # Safety
@@ -51,6 +51,30 @@ pub unsafe extern "C" fn read_answer(
             from_raw_parts_mut(block, block_len),
             from_raw_parts_mut(runin, runin_len),
             from_raw_parts_mut(cycle, cycle_len),
+        )
+    }
+}
+
+/// # Safety
+/// Each pointer is to so many bytes as the length behind it says, and the block
+/// overlaps none of the other three stretches.
+#[unsafe(no_mangle)]
+pub unsafe extern "C" fn check_tour(
+    plan: *const u8,
+    plan_len: usize,
+    runin: *const u8,
+    runin_len: usize,
+    cycle: *const u8,
+    cycle_len: usize,
+    block: *mut u8,
+    block_len: usize,
+) -> u32 {
+    unsafe {
+        checker::check_tour(
+            from_raw_parts(plan, plan_len),
+            from_raw_parts(runin, runin_len),
+            from_raw_parts(cycle, cycle_len),
+            from_raw_parts_mut(block, block_len),
         )
     }
 }

@@ -7,7 +7,7 @@
 --   SplitMove a b  == b lists the moves of a, and instead of one that asks for mark i or mark j the two that ask for one each
 --   split-alike    == then a and b have the same steps and blocked states, so that they accept the same words (`alike-hard`, `alike-soft`)
 use mathlib.Core.Path.{_≡_, refl, sym, ap, _∙_}
-use mathlib.Core.Bool.{Bool, true, false, not, _&&_, _||_}
+use mathlib.Core.Bool.{Bool, true, false, not, _&&_, _||_, or-assoc, or-false}
 use Prim.Native.Nat.{ℕ, zero, suc, _+_, _^_}
 use native.Mathlib.Decide.{ℕ-discrete}
 use native.Mathlib.Omega.{arith}
@@ -19,7 +19,7 @@ use Rattle.base.specs.Bits.{bit}
 use Rattle.automata.specs.Automaton.{guard, move, opens, moveCount, fits, leads, step, blocked}
 use Rattle.automata.specs.declared.Automaton.{Automaton}
 use Rattle.automata.specs.declared.Move.{Move}
-use Rattle.base.proofs.Tests.{bool-same}
+use Rattle.base.proofs.Tests.{bool-same, or-left, or-right, or-elim}
 use Rattle.base.proofs.Bits.{bit-lt, bit-zero, bit-or, bit-ext, bit-add-same, bit-add-other}
 use Rattle.automata.proofs.Repeats.{Relisted, any-relisted, Alike}
 use Rattle.automata.proofs.Guards.{Satisfies, guard-satisfies, satisfies-guard}
@@ -41,17 +41,6 @@ fits-none a none x q i = rw (none i, guard-none x (getD (a .need) i 0) (getD (a 
 pub record Lone (a i : ℕ) : Type 0 where
   pub here : bit a i ≡ 1
   pub only : (k : ℕ) → bit a k ≡ 1 → k ≡ i
-
-or-elim : (a b : Bool) {C : Type 0} → (a || b) ≡ true → (a ≡ true → C) → (b ≡ true → C) → C
-or-elim true b h f g = f refl
-or-elim false b h f g = g h
-
-or-first : (a b : Bool) → a ≡ true → (a || b) ≡ true
-or-first a b h = rw h
-
-or-second : (a b : Bool) → b ≡ true → (a || b) ≡ true
-or-second true b h = refl
-or-second false b h = h
 
 module _ (x need bar : ℕ) where
   -- a label that has one of the marks of any has that mark as needed; and the other way round
@@ -85,11 +74,11 @@ module _ (x need bar : ℕ) where
         at : (k : ℕ) → bit (bitOr a b) k ≡ 1 → bit x k ≡ 1 → Dec (bit a k ≡ 1) → both ≡ true
         at k m h (yes e) =
             let g = narrow (bitOr a b) a i one s (ap (bit x) (sym (one .only k e)) ∙ h) in
-            or-first (guard x (bitOr need a) bar 0) (guard x (bitOr need b) bar 0) (satisfies-guard x (bitOr need a) bar 0 g)
+            or-left (guard x (bitOr need a) bar 0) (guard x (bitOr need b) bar 0) (satisfies-guard x (bitOr need a) bar 0 g)
         at k m h (no e) =
             let d : bit b k ≡ 1 = omega (arith, bit-or a b k, bit-lt a k, bit-lt b k) in
             let g = narrow (bitOr a b) b j other s (ap (bit x) (sym (other .only k d)) ∙ h) in
-            or-second (guard x (bitOr need a) bar 0) (guard x (bitOr need b) bar 0) (satisfies-guard x (bitOr need b) bar 0 g)
+            or-right (guard x (bitOr need a) bar 0) (guard x (bitOr need b) bar 0) (satisfies-guard x (bitOr need b) bar 0 g)
 
     pub guard-either : guard x need bar (bitOr a b) ≡ both
     guard-either = bool-same _ _
@@ -149,14 +138,6 @@ pub record SplitMove (a b : Automaton) : Type 0 where
   pub n : ℕ
   pub whole : Relisted (move a) (moveCount a) (first-then m others) (suc n)
   pub halves : Relisted (move b) (moveCount b) (first-then (half i m) (first-then (half j m) others)) (suc (suc n))
-
-or-assoc : (a b c : Bool) → ((a || b) || c) ≡ (a || (b || c))
-or-assoc true b c = refl
-or-assoc false b c = refl
-
-or-false : (a : Bool) → (a || false) ≡ a
-or-false true = refl
-or-false false = refl
 
 any-first : (p : Move → Bool) (m : Move) (xs : ℕ → Move) (n : ℕ) → anyBelow (suc n) (λ k. p (first-then m xs k)) ≡ p m || anyBelow n (λ k. p (xs k))
 unfolding anyBelow first-then

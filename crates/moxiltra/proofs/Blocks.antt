@@ -5,6 +5,7 @@
 --   block-exact == reading the sixteen bytes back gives the answer that is told, not only remainders of its numbers
 --   reply-short, reply-told == the same of `read_answer`
 --   reply-exact == reading the thirty-two bytes back gives the reply, with buffers of lengths that 64 bits can hold
+--   check-short, check-told, check-is == the same of `check_tour`
 use mathlib.Core.Path.{_≡_, refl, ap, _∙_}
 use mathlib.Core.List.{List, _++_}
 use Prim.Native.Nat.{ℕ, _≤_, _<_}
@@ -22,9 +23,13 @@ use Rattle.readback.specs.Block as reply
 use Rattle.readback.specs.Block.{said, saidBy}
 use Rattle.readback.specs.declared.Reply.{Reply}
 use Rattle.readback.proofs.Blocks.{block-says, reply-narrow, length-block as length-reply}
+use Rattle.checker.specs.Check as checked
+use Rattle.checker.specs.Check.{CheckOf}
+use Rattle.checker.specs.Block as checkBlock
+use Rattle.checker.specs.declared.Check.{Check}
 use Rattle.planner.specs.Promise.{AnswerTo}
 use Rattle.planner.proofs.Bounds.{told-narrow}
-use Rattle.moxiltra.specs.Entries.{Buffers, buffers, ByBlock, Answered, Promise, replyTo, Replied, Reading}
+use Rattle.moxiltra.specs.Entries.{Buffers, buffers, ByBlock, Answered, Promise, replyTo, Replied, Reading, Checked, Checking}
 
 module _ (n : ℕ) (b b′ : Buffers) (r : ℕ) (P : Type 0) where
   short : length (b .block) < n → r ≡ number refusal.BlockTooShort → b′ ≡ b → ByBlock n b b′ r P
@@ -58,6 +63,16 @@ unfolding Reading
 reply-told text block runin loop block′ runin′ loop′ q r h e f g w n =
     long 32 (buffers block runin loop) (buffers block′ runin′ loop′) r _ h (record { returned = n ∙ rw e; block = w ∙ rw e; runin = f ∙ rw e; loop = g ∙ rw e })
 
+pub check-short : (plan runin loop block : List ℕ) → length block < 24 → (r : ℕ) → r ≡ number refusal.BlockTooShort → Checking plan runin loop block block r
+unfolding Checking
+check-short plan runin loop block h r e = short 24 (buffers block runin loop) (buffers block runin loop) r _ h e refl
+
+pub check-told : (plan runin loop block block′ : List ℕ) (c : Check) (r : ℕ) → 24 ≤ length block → CheckOf plan runin loop c
+    → block′ ≡ checkBlock.blockOf c ++ drop 24 block → r ≡ checked.number c → Checking plan runin loop block block′ r
+unfolding Checking
+check-told plan runin loop block block′ c r h t w n =
+    long 24 (buffers block runin loop) (buffers block′ runin loop) r _ h (record { check = c; told = t; returned = n; filled = w })
+
 module _ (plan : List ℕ) (b b′ : Buffers) (r : ℕ) (h : 16 ≤ length (b .block)) (P : Promise plan b b′ r) where
   pub answered : Answered plan b b′ r
   unfolding Promise
@@ -81,3 +96,7 @@ module _ (text : List ℕ) (b b′ : Buffers) (r : ℕ) (h : 32 ≤ length (b .b
       ap (λ x. saidBy (take 32 x)) (replied .block)
       ∙ ap saidBy (take-at (reply.blockOf (replyTo text b)) (drop 32 (b .block)) 32 (length-reply (replyTo text b)))
       ∙ block-says (replyTo text b) (reply-narrow text (length (b .runin)) (length (b .loop)) few low)
+
+pub check-is : (plan runin loop block block′ : List ℕ) (r : ℕ) → 24 ≤ length block → Checking plan runin loop block block′ r → Checked plan runin loop block block′ r
+unfolding Checking
+check-is plan runin loop block block′ r h P = long-is 24 (buffers block runin loop) (buffers block′ runin loop) r _ h P

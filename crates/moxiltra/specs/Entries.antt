@@ -1,4 +1,5 @@
--- What a host's call returns and leaves in the bytes that were lent (01, "For the host and for the rig"; 02, note 2).
+-- What a host's call returns and leaves in the bytes that were lent (01, "For the host and for the rig"; 02, notes 2
+-- and 4).
 --   Buffers, buffers     == the bytes of answer block, run-in and loop
 --   TooShort b b′ r      == the block is too short: its refusal's number is returned, and nothing is touched
 --   ByBlock n b b′ r P   == so where the block has fewer than n bytes; else P
@@ -9,6 +10,8 @@
 --   Replied text b b′ r  == it stands in the first thirty-two bytes of the block, and where the text was read its places stand at the front of
 --                           run-in and loop; no other byte has changed
 --   Reading text b b′ r  == what `read_answer` returns and leaves: one of the two, by the length of the block
+--   Checked plan runin loop block block′ r == the check of a proposed tour stands in the first twenty-four bytes of the block
+--   Checking plan runin loop block block′ r == what `check_tour` returns and leaves in the block, by its length; run-in and loop are only read
 use mathlib.Core.Path.{_≡_}
 use mathlib.Core.Bool.{Bool, true, false}
 use mathlib.Core.List.{List, _++_}
@@ -20,6 +23,10 @@ use Rattle.plan.specs.declared.Refusal.the-variants as refusal
 use Rattle.answer.specs.Block.{blockOf}
 use Rattle.answer.specs.declared.Answer.{Answer}
 use Rattle.planner.specs.Promise.{AnswerTo}
+use Rattle.checker.specs.Check as checked
+use Rattle.checker.specs.Check.{CheckOf}
+use Rattle.checker.specs.Block as checkBlock
+use Rattle.checker.specs.declared.Check.{Check}
 use Rattle.readback.specs.Reading.{readAnswer, runinOf, loopOf, written}
 use Rattle.readback.specs.Reply as reply
 use Rattle.readback.specs.Block as block
@@ -64,3 +71,13 @@ pub record Replied (text : List ℕ) (b b′ : Buffers) (r : ℕ) : Type 0 where
 
 unfoldable pub Reading : List ℕ → Buffers → Buffers → ℕ → Type 0
 Reading text b b′ r = ByBlock 32 b b′ r (Replied text b b′ r)
+
+pub record Checked (plan runin loop block block′ : List ℕ) (r : ℕ) : Type 0 where
+  pub check : Check
+  pub told : CheckOf plan runin loop check
+  pub returned : r ≡ checked.number check
+  pub filled : block′ ≡ checkBlock.blockOf check ++ drop 24 block
+
+unfoldable pub Checking : List ℕ → List ℕ → List ℕ → List ℕ → List ℕ → ℕ → Type 0
+Checking plan runin loop block block′ r =
+    ByBlock 24 (buffers block runin loop) (buffers block′ runin loop) r (Checked plan runin loop block block′ r)

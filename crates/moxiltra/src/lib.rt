@@ -1,12 +1,14 @@
 //! What a host calls: the entries of the library, on numbers and byte slices.
 use answer::put_block;
+use checker::check_number;
+use checker::put_check;
 use plan::Refusal;
 use plan::refusal_number;
 use planner::file_answer;
 use readback::put_reply;
 use readback::reply_number;
 ghost use Rattle.serve.specs.Upcoming.{Offset};
-ghost use Rattle.moxiltra.specs.Entries.{buffers, Promise, Reading};
+ghost use Rattle.moxiltra.specs.Entries.{buffers, Promise, Reading, Checking};
 
 // Plans a tour. Returns 0 or the number of the refusal, and fills the first 16 bytes of the answer block. A tour is written
 // over the front of run-in and loop buffer; on a refusal no byte of them changes.
@@ -53,4 +55,17 @@ pub extern "C" fn read_answer(
     let reply = readback::read_answer(text, runin, cycle);
     put_reply(reply, block);
     reply_number(reply)
+}
+
+// Checks a proposed tour. Returns 0 or the number of the refusal, and fills the first 24 bytes of the block.
+#[no_mangle]
+pub extern "C" fn check_tour(plan: &[u8], runin: &[u8], cycle: &[u8], block: &mut [u8]) -> u32
+    ensures { λ r. ⌜ Checking (now (plan .entry)) (now (runin .entry)) (now (cycle .entry)) (now (block .entry)) (now (block .exit)) r ⌝ }
+{
+    if block.len() < 24 {
+        return refusal_number(Refusal::BlockTooShort);
+    }
+    let check = checker::check_tour(plan, runin, cycle);
+    put_check(check, block);
+    check_number(check)
 }

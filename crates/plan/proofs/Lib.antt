@@ -9,3 +9,4 @@ pub mod Charging
 pub mod Counts
 pub mod Rooms
 pub mod Numbers
+pub mod Rules

@@ -8,7 +8,7 @@ ghost use Prim.Native.Nat.{_≤_, _<_};
 ghost use Rattle.base.specs.Bits.{bit};
 ghost use Rattle.plan.specs.Cost.{keeps, costOf};
 ghost use Rattle.plan.specs.Key.{tie, keyOf};
-ghost use Rattle.plan.specs.Refusal.{number, lineOf};
+ghost use Rattle.plan.specs.Refusal.{number, lineOf, indexOf};
 use automata::Automaton;
 use text::fault::Fault;
 use text::fault::fault_line;
@@ -31,7 +31,7 @@ pub struct Plan {
     pub weights: [u32; 8],
 }
 
-// Why a plan, or the text of an answer, is turned away; what it is numbered, and with which line it comes, is said in specs/Refusal.
+// Why a plan, the text of an answer or a proposed tour is turned away; what it is numbered, and with which line it comes, is said in specs/Refusal.
 pub enum Refusal {
     PlanTooLong,
     Line(Fault),
@@ -40,6 +40,7 @@ pub enum Refusal {
     NoTour,
     BlockTooShort,
     Contradiction,
+    Broken(u64),
 }
 
 // The number of a refusal.
@@ -54,6 +55,7 @@ pub fn refusal_number(refusal: Refusal) -> u32
         Refusal::NoTour => 6,
         Refusal::BlockTooShort => 7,
         Refusal::Contradiction => 8,
+        Refusal::Broken(_) => 9,
     }
 }
 
@@ -69,6 +71,23 @@ pub fn refusal_line(refusal: Refusal) -> usize
         Refusal::NoTour => 0,
         Refusal::BlockTooShort => 0,
         Refusal::Contradiction => 0,
+        Refusal::Broken(_) => 0,
+    }
+}
+
+// The index that comes with it, 0 where there is none.
+pub fn refusal_index(refusal: Refusal) -> u64
+    ensures { λ r. ⌜ r ≡ indexOf refusal ⌝ }
+{
+    match refusal {
+        Refusal::PlanTooLong => 0,
+        Refusal::Line(_) => 0,
+        Refusal::ProductTooLarge => 0,
+        Refusal::BufferTooShort => 0,
+        Refusal::NoTour => 0,
+        Refusal::BlockTooShort => 0,
+        Refusal::Contradiction => 0,
+        Refusal::Broken(index) => index,
     }
 }
 

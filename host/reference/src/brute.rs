@@ -3,6 +3,7 @@
 use crate::plan::Plan;
 use crate::random::Random;
 use crate::tour::judge;
+use crate::walks::Ways;
 
 /// The best of all tours up to some number of places.
 #[derive(Default)]
@@ -47,27 +48,12 @@ fn longer(plan: &Plan, walk: &[u8]) -> Vec<Vec<u8>> {
 /// Judges tours made of chance walks from the start, closed where they can be.
 pub fn chance_tours(plan: &Plan, random: &mut Random, walks: usize, most_places: usize) -> Search {
     let mut search = Search::default();
-    let mut ways = vec![Vec::new(); plan.labels.len()];
-    for &(from, to) in &plan.roads {
-        ways[from as usize].push(to);
-    }
+    let ways = Ways::of(plan);
     for _ in 0..walks {
         let length = random.between(1, most_places);
-        let mut walk = vec![plan.start];
-        while walk.len() < length {
-            let out = &ways[walk[walk.len() - 1] as usize];
-            if out.is_empty() {
-                break;
-            }
-            walk.push(*random.pick(out));
-        }
-        let last = walk[walk.len() - 1];
-        let closings: Vec<usize> = (0..walk.len())
-            .filter(|&i| ways[last as usize].contains(&walk[i]))
-            .collect();
-        if !closings.is_empty() {
-            let split = *random.pick(&closings);
-            search.consider(plan, &walk[..split], &walk[split..]);
+        let walk = ways.walk(random, length);
+        if let Some((run_in, cycle)) = ways.closed(&walk, random) {
+            search.consider(plan, &run_in, &cycle);
         }
     }
     search

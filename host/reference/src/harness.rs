@@ -3,6 +3,7 @@
 
 use crate::brute::{all_short_tours, chance_tours, Search};
 use crate::cases::Case;
+use crate::checking::check_own;
 use crate::entry::{Block, BLOCK_BYTES};
 use crate::figures::Figure;
 use crate::library::{Library, REFERENCE};
@@ -104,6 +105,10 @@ fn one_call(
     own.agrees(&reference).map_err(with_lengths)?;
     if let Some((run_in, cycle)) = own.tour() {
         follow(library, run_in, cycle, salt, tally)?;
+    }
+    if let (Some(plan), Some(tour), Some(worth)) = (plan, own.tour(), own.worth()) {
+        check_own(library, case, plan, tour, worth, (salt, tally))
+            .map_err(|what| format!("the planner's tour, checked: {what}"))?;
     }
     if let Some(answer) = own.answer() {
         let more = salt as usize % 4;

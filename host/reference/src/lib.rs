@@ -11,14 +11,22 @@
 //! | `entry` | `plan_tour` on byte slices, with the answer block |
 //! | `upcoming` | the places from a step on, and where they begin |
 //! | `answers` | an answer as numbers, its text, and `read_answer` |
+//! | `breaks` | where a proposed tour breaks |
+//! | `acceptance` | whether an automaton accepts a tour of any length |
+//! | `checker` | what a tour drawn by hand is worth, and `check_tour` |
 //! | `tour` | any tour judged by the definitions, without the product |
+//! | `causes` | all that breaks a proposed tour, cause by cause |
 //! | `brute` | the best of all short tours, and of some chance ones |
 //! | `random` | a small source of chance with a fixed seed |
 //! | `rules`, `maps`, `shapes` | automata, roads and large plans to generate |
+//! | `walks` | walks of a map, and where they close to tours |
 //! | `guards` | their move lines of five numbers |
 //! | `damage` | faulty files, made from good ones |
 //! | `slips` | what may stand in the place of one line of an answer |
 //! | `texts`, `batches` | texts to read as answers: fixed ones, and generated ones |
+//! | `drawn` | proposed tours: what may be made of a tour of the map, and lists of no relation |
+//! | `sketches` | fixed ones, some with their answers worked out by hand |
+//! | `loads` | tours to time the checker with |
 //! | `cases` | files to plan: fixed ones, and generated ones by their number |
 //! | `figures` | the cases that 01 sets down with their answers |
 //! | `library` | the entries under comparison: of an archive, or the stand-in |
@@ -27,21 +35,33 @@
 //! | `harness` | one case put to both planners, the answers set side by side |
 //! | `serving` | upcoming places, by numbers and along the tours answered |
 //! | `reading` | one text put to both readers, the answers set side by side |
+//! | `finding` | a call of `check_tour` with guarded bytes, and what it leaves behind |
+//! | `checking` | one proposed tour put to both checkers, the answers set side by side |
+//! | `checked` | what a comparison has met of `check_tour` |
 //! | `tally` | what a comparison has met, and what it should have met |
 //! | `transcript` | a library's answers to generated plans, written down with their places |
 
+pub mod acceptance;
 pub mod answers;
 pub mod batches;
+pub mod breaks;
 pub mod brute;
 pub mod cases;
+pub mod causes;
+pub mod checked;
+pub mod checker;
+pub mod checking;
 pub mod components;
 pub mod damage;
+pub mod drawn;
 pub mod entry;
 pub mod figures;
+pub mod finding;
 pub mod guards;
 pub mod harness;
 pub mod lent;
 pub mod library;
+pub mod loads;
 pub mod maps;
 pub mod plan;
 pub mod planner;
@@ -53,9 +73,11 @@ pub mod reply;
 pub mod rules;
 pub mod serving;
 pub mod shapes;
+pub mod sketches;
 pub mod slips;
 pub mod tally;
 pub mod texts;
 pub mod tour;
 pub mod transcript;
 pub mod upcoming;
+pub mod walks;

@@ -4,6 +4,7 @@
 //! the stand-in: the reference itself.
 
 use crate::answers;
+use crate::checker;
 use crate::entry;
 use crate::upcoming;
 
@@ -13,6 +14,7 @@ pub struct Library {
     pub plan_tour: PlanTour,
     pub upcoming_offset: UpcomingOffset,
     pub read_answer: ReadAnswer,
+    pub check_tour: CheckTour,
 }
 
 /// On plan, answer block, run-in and loop.
@@ -24,10 +26,14 @@ pub type UpcomingOffset = fn(u64, u64, u64) -> u64;
 /// On text, block, run-in and loop.
 pub type ReadAnswer = fn(&[u8], &mut [u8], &mut [u8], &mut [u8]) -> u32;
 
+/// On plan, run-in, loop and block.
+pub type CheckTour = fn(&[u8], &[u8], &[u8], &mut [u8]) -> u32;
+
 pub const REFERENCE: Library = Library {
     plan_tour: entry::plan_tour,
     upcoming_offset: upcoming::upcoming_offset,
     read_answer: answers::read_answer,
+    check_tour: checker::check_tour,
 };
 
 #[cfg(not(archive))]
@@ -40,6 +46,7 @@ pub const LIBRARY: Library = Library {
     plan_tour: archive::plan_tour,
     upcoming_offset: archive::upcoming_offset,
     read_answer: archive::read_answer,
+    check_tour: archive::check_tour,
 };
 #[cfg(archive)]
 pub const NAME: &str = env!("MOXILTRA_ARCHIVE");
@@ -68,6 +75,16 @@ mod archive {
                 runin_len: usize,
                 cycle: *mut u8,
                 cycle_len: usize,
+            ) -> u32;
+            pub fn check_tour(
+                plan: *const u8,
+                plan_len: usize,
+                runin: *const u8,
+                runin_len: usize,
+                cycle: *const u8,
+                cycle_len: usize,
+                block: *mut u8,
+                block_len: usize,
             ) -> u32;
         }
     }
@@ -102,6 +119,21 @@ mod archive {
                 runin.len(),
                 cycle.as_mut_ptr(),
                 cycle.len(),
+            )
+        }
+    }
+
+    pub fn check_tour(plan: &[u8], runin: &[u8], cycle: &[u8], block: &mut [u8]) -> u32 {
+        unsafe {
+            c::check_tour(
+                plan.as_ptr(),
+                plan.len(),
+                runin.as_ptr(),
+                runin.len(),
+                cycle.as_ptr(),
+                cycle.len(),
+                block.as_mut_ptr(),
+                block.len(),
             )
         }
     }

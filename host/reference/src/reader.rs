@@ -5,8 +5,8 @@ use std::ops::RangeInclusive;
 
 type Range = RangeInclusive<u64>;
 
-/// Why a plan, or the text of an answer, is turned away; a line is counted
-/// from 1.
+/// Why a plan, the text of an answer, or a proposed tour is turned away; a line
+/// is counted from 1, an index from 0.
 #[derive(Clone, Copy, Debug, PartialEq, Eq)]
 pub enum Refusal {
     TooLong,
@@ -16,6 +16,7 @@ pub enum Refusal {
     Buffer,
     NoTour,
     Contradiction,
+    Broken { index: u64 },
 }
 
 impl Refusal {
@@ -28,12 +29,20 @@ impl Refusal {
             Refusal::Buffer => 5,
             Refusal::NoTour => 6,
             Refusal::Contradiction => 8,
+            Refusal::Broken { .. } => 9,
         }
     }
 
     pub fn line(self) -> u32 {
         match self {
             Refusal::Form { line } | Refusal::Range { line } => line,
+            _ => 0,
+        }
+    }
+
+    pub fn index(self) -> u64 {
+        match self {
+            Refusal::Broken { index } => index,
             _ => 0,
         }
     }

@@ -2,6 +2,7 @@
 
 use crate::answers::Answer;
 use crate::cases::Case;
+use crate::checker::Worth;
 use crate::entry::{Block, BLOCK_BYTES};
 use crate::lent::Lent;
 use crate::library::Library;
@@ -149,6 +150,16 @@ impl Reply {
             self.run_in.first(block.run_in as usize),
             self.cycle.first(block.cycle as usize),
         ))
+    }
+
+    /// What a checker should say of the tour.
+    pub fn worth(&self) -> Option<Worth> {
+        let block = self.block().filter(|block| block.number == 0)?;
+        Some(Worth {
+            accepted: true,
+            cost: block.cost,
+            kept: block.kept,
+        })
     }
 
     /// The answer that `plantour` would print, once the call is known to be

@@ -2,6 +2,7 @@
 
 use crate::answers::LINES;
 use crate::batches::GENERATED;
+use crate::checked::Checked;
 use crate::plan::Plan;
 use crate::shapes::SHAPES;
 use crate::texts::FIXED;
@@ -45,6 +46,7 @@ pub struct Tally {
     pub fixed_texts: BTreeMap<String, usize>,
     pub generated_texts: BTreeMap<String, usize>,
     pub read_back: [usize; 2],
+    pub checked: Checked,
 }
 
 impl Tally {
@@ -135,7 +137,8 @@ impl Tally {
             ("a tour with a run-in".into(), self.followed[0]),
             ("a tour without a run-in".into(), self.followed[1]),
         ];
-        let all = numbers.chain(shapes).chain(others).chain(self.reading());
+        let planning = numbers.chain(shapes).chain(others);
+        let all = planning.chain(self.reading()).chain(self.checked.due());
         all.filter(|(_, count)| *count == 0)
             .map(|(what, _)| what)
             .collect()
@@ -182,6 +185,7 @@ impl fmt::Display for Tally {
             self.read_back[1],
             numbers.join(", ")
         )?;
+        writeln!(f, "{}", self.checked)?;
         write!(
             f,
             "tours judged: {}; plans all of whose short tours were tried: {}, \

@@ -1,23 +1,27 @@
 //! Times the library beside the reference, in one process, on large plans.
 //!
 //!     bench [--plans COUNT] [--size N]
+//!     bench --checks
 //!     bench --write SHAPE SEED FILE
 //!
 //! For each shape, COUNT plans (9) with N near 2,048 or the number given: the
 //! median and the worst time of a plan, in microseconds, and how often the
 //! reference's time the library's is. Then how the median grows with N, and
-//! the power of N by which it does so from the third size to the last; last, the
-//! size of a product of each shape.
+//! the power of N by which it does so from the third size to the last, and the
+//! size of a product of each shape; last, the time of checking tours, the
+//! library's for each place too. With --checks that alone.
 //!
 //! With --write no time is taken: the file becomes the plan number SEED of that
 //! shape, with N near 2,048.
 
 use reference::components::components;
 use reference::library::{Library, LIBRARY, NAME, REFERENCE};
+use reference::loads::{loads, Load};
 use reference::product::Product;
 use reference::random::Random;
 use reference::reader::read;
 use reference::shapes::{large, Shape, SHAPES};
+use std::hint::black_box;
 use std::time::Instant;
 
 /// Each plan is planned so often by each, in turns; the shortest time counts.
@@ -30,6 +34,9 @@ fn main() {
         if write == "--write" {
             return write_plan(shape, seed, file);
         }
+    }
+    if arguments == ["--checks"] {
+        return time_checks();
     }
     for pair in arguments.chunks(2) {
         match (
@@ -104,10 +111,64 @@ fn main() {
             parts.len()
         );
     }
+    println!();
+    time_checks();
+}
+
+/// A tour is checked again and again until so many microseconds have passed.
+const LEAST: f64 = 200.0;
+
+fn time_checks() {
+    println!("library: {NAME}; checking tours; microseconds");
+    println!(
+        "{:30} {:>7} {:>8} {:>10} {:>10} {:>9} {:>7}",
+        "tour", "plan", "places", "reference", "library", "ns/place", "ratio"
+    );
+    for load in loads() {
+        let (mut reference, mut library) = (f64::INFINITY, f64::INFINITY);
+        assert_eq!(checked(&load, REFERENCE), checked(&load, LIBRARY));
+        for _ in 0..REPEATS {
+            reference = reference.min(time_check(&load, REFERENCE));
+            library = library.min(time_check(&load, LIBRARY));
+        }
+        let places = load.run_in.len() + load.cycle.len();
+        println!(
+            "{:30} {:>7} {:>8} {:>10.1} {:>10.1} {:>9.1} {:>6.2}x",
+            load.name,
+            load.file.len(),
+            places,
+            reference,
+            library,
+            1e3 * library / places as f64,
+            library / reference,
+        );
+    }
+}
+
+/// The block of a tour that is not refused.
+fn checked(load: &Load, library: Library) -> [u8; 24] {
+    let mut block = [0; 24];
+    let number = (library.check_tour)(&load.file, &load.run_in, &load.cycle, &mut block);
+    assert_eq!(number, 0, "{}", load.name);
+    block
+}
+
+fn time_check(load: &Load, library: Library) -> f64 {
+    let begin = Instant::now();
+    let mut calls = 0.0;
+    loop {
+        black_box(checked(black_box(load), library));
+        calls += 1.0;
+        let spent = begin.elapsed().as_secs_f64() * 1e6;
+        if spent >= LEAST {
+            return spent / calls;
+        }
+    }
 }
 
 fn usage() -> ! {
     eprintln!("usage: bench [--plans COUNT] [--size N], N from 64 to 2048");
+    eprintln!("       bench --checks");
     eprintln!("       bench --write SHAPE SEED FILE");
     std::process::exit(2)
 }

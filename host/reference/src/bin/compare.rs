@@ -5,10 +5,11 @@
 //!
 //! First come the figures of 01, where upcoming places begin for some hundred
 //! thousand lengths and steps, files with buffers of every length about the
-//! limits, two plans harmed in every way of some kinds, and texts to read as
-//! answers; then cases in the order of their numbers, from CASE (0 if not given)
-//! on, until S seconds (20) have passed or COUNT cases are done. A case is a
-//! plan and a batch of texts to read, the same on every run. With
+//! limits, two plans harmed in every way of some kinds, tours to check, and texts
+//! to read as answers; then cases in the order of their numbers, from CASE (0 if
+//! not given) on, until S seconds (20) have passed or COUNT cases are done. A case
+//! is a plan, tours to check beside it and a batch of texts to read, the same on
+//! every run. With
 //! --bare nothing lies about the plan and the buffers: a checker of memory then
 //! sees each step beyond them. With --trace each case is told before its first
 //! call. The first difference is printed with its case and its plan or text, and
@@ -24,11 +25,17 @@
 
 use reference::batches::batch;
 use reference::cases::{case, harmed_cases, limit_cases, Case};
+use reference::checker::BLOCK_BYTES;
+use reference::checking::{
+    check_beside_harm, check_blocks, check_by_hand, check_chance_tours, check_drawn,
+    check_every_list,
+};
 use reference::figures::figures;
 use reference::harness::{check, check_figure, check_limits, check_once};
 use reference::library::{Library, LIBRARY, NAME};
 use reference::reading::{check_chance_text, check_text, check_text_blocks, check_text_buffers};
 use reference::serving::{check_case_9, check_offsets};
+use reference::sketches::{block_tours, by_hand, long_tours, small_maps};
 use reference::tally::Tally;
 use reference::texts::{block_texts, buffer_texts, fixed_texts};
 use reference::transcript::Transcript;
@@ -95,9 +102,11 @@ fn main() {
     for case in harmed_cases() {
         let (name, case) = (case.kind.clone(), options.lay(case));
         options.put(&name, Some(("plan", &case.file)), || {
-            check_once(LIBRARY, &case, &mut tally)
+            check_once(LIBRARY, &case, &mut tally)?;
+            check_beside_harm(LIBRARY, &case, &mut tally)
         });
     }
+    options.put_drawn(&mut tally);
     let texts: [(_, TextCheck); 3] = [
         (block_texts(), check_text_blocks),
         (buffer_texts(), check_text_buffers),
@@ -117,7 +126,8 @@ fn main() {
         let (case, mut random) = case(number);
         let (name, case) = (format!("case {number}, {}", case.kind), options.lay(case));
         options.put(&name, Some(("plan", &case.file)), || {
-            check(LIBRARY, &case, &mut random, &mut tally)
+            check(LIBRARY, &case, &mut random, &mut tally)?;
+            check_chance_tours(LIBRARY, &case, &mut random, &mut tally)
         });
         let (texts, mut random) = batch(number);
         for text in texts {
@@ -167,6 +177,35 @@ impl Options {
             case.bare()
         } else {
             case
+        }
+    }
+
+    /// The fixed tours to check.
+    fn put_drawn(&self, tally: &mut Tally) {
+        for hand in by_hand() {
+            let (name, text) = (format!("drawn tour, {}", hand.name), hand.plan.text());
+            self.put(&name, Some(("plan", text.as_bytes())), || {
+                check_by_hand(LIBRARY, &hand)
+            });
+        }
+        for (case, drawn) in block_tours() {
+            let (name, case) = (format!("drawn tour, {}", case.kind), self.lay(case));
+            self.put(&name, Some(("plan", &case.file)), || {
+                check_blocks(LIBRARY, &case, &drawn, tally)
+            });
+        }
+        for map in small_maps() {
+            let case = self.lay(Case::new(map.name, map.plan.text().into_bytes()));
+            let name = format!("all lists beside {}", map.name);
+            self.put(&name, Some(("plan", &case.file)), || {
+                check_every_list(LIBRARY, &case, &map, tally)
+            });
+        }
+        for (case, drawn) in long_tours() {
+            let (name, case) = (case.kind.clone(), self.lay(case));
+            self.put(&name, Some(("plan", &case.file)), || {
+                check_drawn(LIBRARY, &case, &drawn, (BLOCK_BYTES, 0), tally).map(|_| ())
+            });
         }
     }
 

@@ -1,0 +1,4 @@
+pub mod Decision
+pub mod Rule
+pub mod Table
+pub mod Sets

@@ -1,0 +1,3 @@
+pub mod Seeking
+pub mod Drafting
+pub mod DrawnBack
