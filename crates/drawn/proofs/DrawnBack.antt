@@ -5,11 +5,10 @@
 --   lines-read            == so it is where the search finds the lines of run-in and loop
 --   runin-here            == a line `runin=` is found where it begins
 --   pair-read             == of the two lines by themselves, whatever follows
---   text-lines            == the text of an answer as its six lines, one behind the other
 --   answer-read           == of the text of an answer that there is
 use mathlib.Core.Path.{_≡_, refl, ap, _∙_}
 use mathlib.Core.Bool.{Bool, true, false}
-use mathlib.Core.List.{List, [], _∷_, _++_, append-nil, append-assoc}
+use mathlib.Core.List.{List, [], _∷_, _++_, append-assoc}
 use Prim.Native.Nat.{ℕ, _+_, _≤_, _<_}
 use native.Mathlib.Omega.{arith}
 use borrow.Author.Tests.{le-leb, lt-ltb}
@@ -24,8 +23,9 @@ use Rattle.text.proofs.ReadLines.{line-rest, list-back, places-back}
 use Rattle.text.proofs.StoodLines.{newlines-append, newlines-decimal}
 use Rattle.text.proofs.Lists.{under-more}
 use Rattle.answer.specs.Sound.{Sound}
-use Rattle.answer.specs.Text.{answerKey, lineKey, costKey, keptKey, runinKey, loopKey, figures, textOf}
+use Rattle.answer.specs.Text.{answerKey, lineKey, costKey, keptKey, runinKey, loopKey, textOf}
 use Rattle.answer.specs.declared.Answer.{Answer}
+use Rattle.answer.proofs.Texts.{linesOf, text-lines}
 use Rattle.drawn.specs.Drawing.{lineWith, runinAt, draftAt, fitting, readTour, runinOf, loopOf}
 use Rattle.drawn.specs.declared.Drawn.the-variants.{Tour}
 
@@ -97,17 +97,6 @@ pub pair-read : (stem cycle rest : List ℕ) (r l : ℕ) → length stem ≤ r �
 pair-read stem cycle rest r l p q g h = lines-read _ r l stem cycle rest p q g h 0 (runin-here (joined stem) _ 0) refl
 
 module _ (a : Answer) (stem cycle : List ℕ) where
-  abbrev linesOf : List ℕ
-  linesOf =
-      keyLine answerKey (decimal (a .number))
-      ++ (keyLine lineKey (decimal (a .line))
-      ++ (keyLine costKey (decimal (a .cost))
-      ++ (keyLine keptKey (decimal (a .kept)) ++ (keyLine runinKey (joined stem) ++ (keyLine loopKey (joined cycle) ++ [])))))
-
-  text-lines : textOf a stem cycle ≡ linesOf
-  unfolding figures textOf
-  text-lines = simp (append-assoc, append-nil)
-
   pub answer-read : Sound a stem cycle → (r l : ℕ) → length stem ≤ r → length cycle ≤ l → Read (textOf a stem cycle) r l stem cycle
   unfolding startsWith newlines keyLine
   answer-read h r l p q =
@@ -117,14 +106,14 @@ module _ (a : Answer) (stem cycle : List ℕ) where
       let cost-at = line-at + length (keyLine lineKey (decimal (a .line))) in
       let kept-at = cost-at + length (keyLine costKey (decimal (a .cost))) in
       let stem-at = kept-at + length (keyLine keptKey (decimal (a .kept))) in
-      let line-there = line-rest linesOf 0 answerKey (decimal (a .number)) _ refl in
-      let cost-there = line-rest linesOf line-at lineKey (decimal (a .line)) _ line-there in
-      let kept-there = line-rest linesOf cost-at costKey (decimal (a .cost)) _ cost-there in
-      let stem-there = line-rest linesOf kept-at keptKey (decimal (a .kept)) _ kept-there in
-      let begun : runinAt linesOf ≡ stem-at =
+      let line-there = line-rest (linesOf a stem cycle) 0 answerKey (decimal (a .number)) _ refl in
+      let cost-there = line-rest (linesOf a stem cycle) line-at lineKey (decimal (a .line)) _ line-there in
+      let kept-there = line-rest (linesOf a stem cycle) cost-at costKey (decimal (a .cost)) _ cost-there in
+      let stem-there = line-rest (linesOf a stem cycle) kept-at keptKey (decimal (a .kept)) _ kept-there in
+      let begun : runinAt (linesOf a stem cycle) ≡ stem-at =
       line-passed runinKey answerKey (decimal (a .number)) _ 0 refl refl (newlines-decimal _)
       ∙ line-passed runinKey lineKey (decimal (a .line)) _ line-at refl refl (newlines-decimal _)
       ∙ line-passed runinKey costKey (decimal (a .cost)) _ cost-at refl refl (newlines-decimal _)
       ∙ line-passed runinKey keptKey (decimal (a .kept)) _ kept-at refl refl (newlines-decimal _)
       ∙ runin-here (joined stem) _ stem-at in
-      rw text-lines (lines-read linesOf r l stem cycle [] p q stem-bytes cycle-bytes stem-at begun stem-there)
+      rw (text-lines a stem cycle) (lines-read (linesOf a stem cycle) r l stem cycle [] p q stem-bytes cycle-bytes stem-at begun stem-there)

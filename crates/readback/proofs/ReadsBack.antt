@@ -1,7 +1,6 @@
 -- What is printed is read back (02, note 2): the text of an answer that there is, with its run-in and its loop, is read as just these.
 --   given-all, known-sound  == an answer that agrees with what stands beside it is one that plantour gives
 --   answer-back             == the line `answer=n`
---   linesOf, text-lines     == the text as its six lines, one behind the other
 --   says a                  == the record of an answer
 --   Drafted a stem cycle s  == the lines of s come to that record, with run-in and loop where they stand
 --   drafted, printed        == so do those six lines: each is read behind the one before; and so does the text
@@ -9,7 +8,7 @@
 --                           == the text is read as that record, and its places are those that were written
 use mathlib.Core.Path.{_≡_, refl}
 use mathlib.Core.Bool.{true}
-use mathlib.Core.List.{List, [], _++_, append-nil, append-assoc}
+use mathlib.Core.List.{List, [], _++_}
 use Prim.Native.Nat.{ℕ, _+_, _≤_}
 use native.Mathlib.Omega.{arith}
 use borrow.Author.Tests.{le-leb}
@@ -25,9 +24,10 @@ use Rattle.text.proofs.ReadLines.{line-rest, value-back, within-from-0, one-bac
 use Rattle.plan.specs.Answers.{kindOf, consistent}
 use Rattle.plan.specs.declared.kind.Kind.{Kind}
 use Rattle.plan.specs.declared.kind.Kind.the-variants as kind
-use Rattle.answer.specs.Text.{answerKey, lineKey, costKey, keptKey, runinKey, loopKey, figures, textOf}
+use Rattle.answer.specs.Text.{answerKey, lineKey, costKey, keptKey, runinKey, loopKey, textOf}
 use Rattle.answer.specs.Sound.{Sound}
 use Rattle.answer.specs.declared.Answer.{Answer}
+use Rattle.answer.proofs.Texts.{linesOf, text-lines}
 use Rattle.readback.specs.Reading.{given, known, answerLine, draftOf, judge, readAnswer, runinOf, loopOf}
 use Rattle.readback.specs.declared.Record.{Record}
 use Rattle.readback.specs.declared.Draft.{Draft}
@@ -47,17 +47,6 @@ answer-back : (s : List ℕ) (at n : ℕ) (rest : List ℕ) → drop at s ≡ ke
     ≡ line.Numbers (pair n 0) (record { at = at + length (keyLine answerKey (decimal n)) })
 unfolding answerLine
 answer-back s at n rest k fit xs = rw (value-back s at answerKey n rest k, fit)
-
-abbrev linesOf : Answer → List ℕ → List ℕ → List ℕ
-linesOf a stem cycle =
-    keyLine answerKey (decimal (a .number))
-    ++ (keyLine lineKey (decimal (a .line))
-    ++ (keyLine costKey (decimal (a .cost))
-    ++ (keyLine keptKey (decimal (a .kept)) ++ (keyLine runinKey (joined stem) ++ (keyLine loopKey (joined cycle) ++ [])))))
-
-text-lines : (a : Answer) (stem cycle : List ℕ) → textOf a stem cycle ≡ linesOf a stem cycle
-unfolding figures textOf
-text-lines a stem cycle = simp (append-assoc, append-nil)
 
 abbrev says : Answer → Record
 says a = record { number = a .number; line = a .line; cost = a .cost; kept = a .kept; stem = a .stem; cycle = a .cycle }
