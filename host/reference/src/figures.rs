@@ -1,5 +1,6 @@
 //! The cases of 01, "Figures to check against", that are files and answers.
 
+use crate::handmade::{silent, x_under};
 use crate::plan::{Automaton, Plan, Soft};
 use crate::rules::{again, always, never, once};
 
@@ -82,10 +83,6 @@ pub fn figures() -> Vec<Figure> {
         cost: 0,
         kept: 0,
     };
-    let silent = Automaton {
-        accept: 0,
-        ..always()
-    };
     let still = Automaton {
         moves: Vec::new(),
         ..never(1)
@@ -102,16 +99,7 @@ pub fn figures() -> Vec<Figure> {
             5,
             0,
         ),
-        planned(
-            "3",
-            Plan {
-                hard: again(1),
-                ..x()
-            },
-            0,
-            2,
-            1,
-        ),
+        planned("3", x_under(again(1)), 0, 2, 1),
         planned(
             "4",
             Plan {
@@ -122,16 +110,7 @@ pub fn figures() -> Vec<Figure> {
             4,
             1,
         ),
-        planned(
-            "5",
-            Plan {
-                hard: silent,
-                ..x()
-            },
-            6,
-            0,
-            0,
-        ),
+        planned("5", x_under(silent()), 6, 0, 0),
         planned(
             "6",
             Plan {

@@ -70,25 +70,12 @@ impl Finding {
         if self.lists_changed {
             return Err("bytes of run-in or loop changed".into());
         }
-        let Some(block) = self.block() else {
-            return match self.returned {
-                7 if self.block.unchanged_beyond(0) => Ok(None),
-                7 => Err("bytes changed on refusal 7".into()),
-                other => Err(format!("short block, returned {other}")),
-            };
+        let block = self.block();
+        let numbers = block.map(|block| block.bytes());
+        self.block.of_form(numbers, self.returned, &[])?;
+        let Some(block) = block else {
+            return Ok(None);
         };
-        if self.block.content()[..BLOCK_BYTES] != block.bytes() {
-            return Err("byte 3 or bytes 12 to 15 of the block are not 0".into());
-        }
-        if !self.block.unchanged_beyond(BLOCK_BYTES) {
-            return Err("bytes beyond the block changed".into());
-        }
-        if self.returned != block.number as u32 {
-            return Err(format!(
-                "returned {}, block has {}",
-                self.returned, block.number
-            ));
-        }
         let worth = Worth {
             accepted: block.accepts == 1,
             cost: block.cost,

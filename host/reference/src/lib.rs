@@ -29,6 +29,7 @@
 //! | `loads` | tours to time the checker with |
 //! | `cases` | files to plan: fixed ones, and generated ones by their number |
 //! | `figures` | the cases that 01 sets down with their answers |
+//! | `handmade` | small plans and rules for fixed cases and tests |
 //! | `library` | the entries under comparison: of an archive, or the stand-in |
 //! | `lent` | a buffer between margins, as it is lent to a call |
 //! | `reply` | a call with guarded buffers, and what it leaves behind |
@@ -58,6 +59,7 @@ pub mod entry;
 pub mod figures;
 pub mod finding;
 pub mod guards;
+pub mod handmade;
 pub mod harness;
 pub mod lent;
 pub mod library;

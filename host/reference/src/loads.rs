@@ -1,7 +1,8 @@
 //! Tours to time the checker with.
 
 use crate::figures::{soft, x};
-use crate::maps::{all_roads, chance_roads, round_and_more};
+use crate::handmade::{one_place, two_places};
+use crate::maps::{chance_roads, round_and_more};
 use crate::plan::{Automaton, Plan, MAX_MOVES, MAX_PLACES, MAX_ROADS};
 use crate::random::Random;
 use crate::rules::{always, chance, counter, full, go_any};
@@ -52,7 +53,7 @@ pub fn loads() -> Vec<Load> {
         }
     }
     let least = [
-        ("least tour, least plan", one_place()),
+        ("least tour, least plan", one_place(always(), Vec::new())),
         ("least tour, plan X", x()),
         ("least tour, longest plan", longest()),
     ];
@@ -75,14 +76,7 @@ pub fn loads() -> Vec<Load> {
 
 /// Two places with all roads, and three soft rules.
 fn soft_eights(rule: Automaton) -> Plan {
-    Plan {
-        marks: 1,
-        labels: vec![0, 1],
-        start: 0,
-        roads: all_roads(2),
-        hard: always(),
-        soft: (1..=3).map(|weight| soft(weight, rule.clone())).collect(),
-    }
+    two_places((1..=3).map(|weight| soft(weight, rule.clone())).collect())
 }
 
 /// All places that there may be, and no soft rule; a road leads from the start
@@ -97,17 +91,6 @@ fn wide(hard: Automaton) -> Plan {
         start: 0,
         roads,
         hard,
-        soft: Vec::new(),
-    }
-}
-
-fn one_place() -> Plan {
-    Plan {
-        marks: 0,
-        labels: vec![0],
-        start: 0,
-        roads: vec![(0, 0)],
-        hard: always(),
         soft: Vec::new(),
     }
 }

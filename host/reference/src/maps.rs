@@ -1,18 +1,12 @@
 //! Places, labels and roads for generated plans.
 
-use crate::plan::{Automaton, Plan, Soft, MAX_PLACES, MAX_ROADS};
+use crate::handmade::one_place;
+use crate::plan::{Automaton, Soft, MAX_PLACES, MAX_ROADS};
 use crate::random::Random;
 
 /// How many places keep N within `size` with these automata.
 pub fn places_within(size: u64, hard: &Automaton, soft: &[Soft]) -> usize {
-    let one = Plan {
-        marks: 0,
-        labels: vec![0],
-        start: 0,
-        roads: Vec::new(),
-        hard: hard.clone(),
-        soft: soft.to_vec(),
-    };
+    let one = one_place(hard.clone(), soft.to_vec());
     (size / one.size()).clamp(1, MAX_PLACES) as usize
 }
 

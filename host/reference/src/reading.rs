@@ -63,25 +63,13 @@ impl Reply {
         if self.text_changed {
             return Err("text bytes changed".into());
         }
-        let Some(block) = self.block() else {
-            return match self.returned {
-                7 if self.block.unchanged_beyond(0) && self.untouched() => Ok(None),
-                7 => Err("bytes changed on refusal 7".into()),
-                other => Err(format!("short block, returned {other}")),
-            };
+        let block = self.block();
+        let numbers = block.map(|block| block.bytes());
+        let others = [&self.run_in, &self.cycle];
+        self.block.of_form(numbers, self.returned, &others)?;
+        let Some(block) = block else {
+            return Ok(None);
         };
-        if self.block.content()[..BLOCK_BYTES] != block.bytes() {
-            return Err("byte 3 of the block is not 0".into());
-        }
-        if !self.block.unchanged_beyond(BLOCK_BYTES) {
-            return Err("bytes beyond the block changed".into());
-        }
-        if self.returned != block.number as u32 {
-            return Err(format!(
-                "returned {}, block has {}",
-                self.returned, block.number
-            ));
-        }
         if block.number != 0 {
             let only = Block {
                 number: block.number,

@@ -69,30 +69,13 @@ impl Reply {
         if self.file_changed {
             return Err("plan bytes changed".into());
         }
-        let Some(block) = self.block() else {
-            return match self.returned {
-                7 if [&self.answer, &self.run_in, &self.cycle]
-                    .iter()
-                    .all(|lent| lent.unchanged_beyond(0)) =>
-                {
-                    Ok(None)
-                }
-                7 => Err("bytes changed on refusal 7".into()),
-                other => Err(format!("short block, returned {other}")),
-            };
+        let block = self.block();
+        let numbers = block.map(|block| block.bytes());
+        let others = [&self.run_in, &self.cycle];
+        self.answer.of_form(numbers, self.returned, &others)?;
+        let Some(block) = block else {
+            return Ok(None);
         };
-        if self.answer.content()[..BLOCK_BYTES] != block.bytes() {
-            return Err("byte 3 of the block is not 0".into());
-        }
-        if !self.answer.unchanged_beyond(BLOCK_BYTES) {
-            return Err("bytes beyond the block changed".into());
-        }
-        if self.returned != block.number as u32 {
-            return Err(format!(
-                "returned {}, block has {}",
-                self.returned, block.number
-            ));
-        }
         let (run_in, cycle) = (block.run_in as usize, block.cycle as usize);
         if run_in > self.run_in.content().len() || cycle > self.cycle.content().len() {
             return Err(format!("lengths {run_in}, {cycle} beyond the buffers"));

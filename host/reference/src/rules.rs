@@ -22,7 +22,8 @@ pub fn go_any(from: u8, need: u8, bar: u8, any: u8, to: u8) -> Move {
     }
 }
 
-fn rule(states: u8, accept: u16, moves: Vec<Move>) -> Automaton {
+/// So many states, of which 0 is the first.
+pub fn rule(states: u8, accept: u16, moves: Vec<Move>) -> Automaton {
     Automaton {
         states,
         first: 0,

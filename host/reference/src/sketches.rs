@@ -5,11 +5,11 @@ use crate::cases::Case;
 use crate::checker::{Block, Worth};
 use crate::drawn::{Drawn, Known, MANY};
 use crate::figures::{at_the_bound, soft, start_marked, x};
-use crate::maps::all_roads;
-use crate::plan::{Automaton, Plan, MAX_PLAN_BYTES, MAX_SIZE};
+use crate::handmade::{first_only, one_place, second_move, silent, two_places, x_under};
+use crate::plan::{Plan, MAX_PLAN_BYTES, MAX_SIZE};
 use crate::random::Random;
 use crate::reader::Refusal;
-use crate::rules::{again, always, counter, go, never, settle};
+use crate::rules::{again, counter, go, never, rule, settle};
 use crate::shapes::{large, Shape};
 use crate::walks::Ways;
 
@@ -39,17 +39,7 @@ pub fn by_hand() -> Vec<ByHand> {
     };
     let at = |index| Err(Refusal::Broken { index });
     let (x, start_marked) = (&x(), &start_marked());
-    let ramp_again = &Plan {
-        hard: again(1),
-        ..x.clone()
-    };
-    let silent = &Plan {
-        hard: Automaton {
-            accept: 0,
-            ..always()
-        },
-        ..x.clone()
-    };
+    let (ramp_again, silent) = (&x_under(again(1)), &x_under(silent()));
     let unmarked = &Plan {
         labels: vec![0, 1],
         ..start_marked.clone()
@@ -98,40 +88,16 @@ pub fn by_hand() -> Vec<ByHand> {
 
 /// Two places, every road, and soft rules that are easily taken for others: one
 /// that accepts in its first state alone, which it leaves; one whose second
-/// move counts; one that changes sides at every step; one that guesses when
-/// the mark ends.
+/// move counts; two that guess, the one from when on the mark is always there,
+/// the other from when on it never is.
 fn choosing() -> Plan {
-    let rule = |states, accept, moves| Automaton {
-        states,
-        first: 0,
-        accept,
-        moves,
-    };
-    let leaves = rule(2, 1, vec![go(0, 0, 0, 1), go(1, 0, 0, 1)]);
-    let second = rule(
-        3,
-        4,
-        vec![
-            go(0, 0, 0, 1),
-            go(0, 0, 0, 2),
-            go(1, 0, 0, 1),
-            go(2, 0, 0, 2),
-        ],
-    );
     let guesses = rule(2, 2, vec![go(0, 0, 0, 0), go(0, 0, 0, 1), go(1, 0, 1, 1)]);
-    Plan {
-        marks: 1,
-        labels: vec![0, 1],
-        start: 0,
-        roads: all_roads(2),
-        hard: always(),
-        soft: vec![
-            soft(1, leaves),
-            soft(2, second),
-            soft(4, settle(0)),
-            soft(8, guesses),
-        ],
-    }
+    two_places(vec![
+        soft(1, first_only()),
+        soft(2, second_move()),
+        soft(4, settle(0)),
+        soft(8, guesses),
+    ])
 }
 
 /// A small map for which all lists of these places are tried, with so many in
@@ -150,23 +116,18 @@ pub fn small_maps() -> Vec<SmallMap> {
         places,
         most,
     };
-    let ramp_again = Plan {
-        hard: again(1),
-        ..x()
-    };
-    let one_place = Plan {
+    let marked = vec![soft(1, counter(2, 0)), soft(2, never(0))];
+    let marked = Plan {
+        marks: 1,
         labels: vec![1],
-        roads: vec![(0, 0)],
-        hard: counter(3, 0),
-        soft: vec![soft(1, counter(2, 0)), soft(2, never(0))],
-        ..start_marked()
+        ..one_place(counter(3, 0), marked)
     };
     vec![
         row("plan X", x(), &[0, 1, 2, 255], (3, 3)),
-        row("plan X, ramp again", ramp_again, &[0, 1, 2], (3, 3)),
+        row("plan X, ramp again", x_under(again(1)), &[0, 1, 2], (3, 3)),
         row("case 8", start_marked(), &[0, 1, 128], (3, 3)),
         row("choices", choosing(), &[0, 1], (4, 5)),
-        row("one place", one_place, &[0, 1], (4, 5)),
+        row("one place", marked, &[0, 1], (4, 5)),
     ]
 }
 
@@ -190,13 +151,6 @@ pub fn every_list(places: &[u8], most: usize) -> Vec<Vec<u8>> {
 /// Plans and lists for every block of up to 40 bytes, with what each comes to if
 /// it is long enough.
 pub fn block_tours() -> Vec<(Case, Drawn)> {
-    let silent = Plan {
-        hard: Automaton {
-            accept: 0,
-            ..always()
-        },
-        ..x()
-    };
     let row = |kind: &str, file: Vec<u8>, cycle: Vec<u8>| {
         let drawn = Drawn::new("block", (Vec::new(), cycle), Known::Nothing);
         (Case::new(&format!("number {kind}"), file), drawn)
@@ -205,7 +159,7 @@ pub fn block_tours() -> Vec<(Case, Drawn)> {
     let spoilt = |from, to| x().text().replace(from, to).into_bytes();
     vec![
         row("0, accepted", text(x()), vec![0, 1]),
-        row("0, not accepted", text(silent), vec![0, 1]),
+        row("0, not accepted", text(x_under(silent())), vec![0, 1]),
         row("1", vec![b'1'; MAX_PLAN_BYTES + 1], vec![0, 1]),
         row("2", spoilt("rules", "rule"), vec![0, 1]),
         row("3", spoilt("start=0", "start=3"), vec![0, 1]),

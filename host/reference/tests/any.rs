@@ -6,11 +6,12 @@ use reference::damage::damage;
 use reference::entry::plan_tour;
 use reference::figures::{soft, x};
 use reference::guards::{either, spelled};
+use reference::handmade::one_place;
 use reference::plan::{Automaton, Move, Plan, MAX_MOVES};
 use reference::planner::best_tour;
 use reference::random::Random;
 use reference::reader::{read, Refusal};
-use reference::rules::{again, always, go, go_any, never, once, some_rule};
+use reference::rules::{again, always, go, go_any, never, once, rule, some_rule};
 use reference::tally::Tally;
 use reference::tour::judge;
 use std::collections::BTreeSet;
@@ -95,17 +96,7 @@ fn each_of_the_five_has_its_range() {
 
 #[test]
 fn without_marks_any_is_0() {
-    let bare = |any| Plan {
-        marks: 0,
-        labels: vec![0],
-        roads: vec![(0, 0)],
-        hard: Automaton {
-            moves: vec![go_any(0, 0, 0, any, 0)],
-            ..always()
-        },
-        soft: Vec::new(),
-        ..x()
-    };
+    let bare = |any| one_place(rule(1, 1, vec![go_any(0, 0, 0, any, 0)]), Vec::new());
     assert_eq!(read(bare(0).text().as_bytes()), Ok(bare(0)));
     assert_eq!(
         read(bare(1).text().as_bytes()),

@@ -3,9 +3,10 @@
 use reference::checker::{check, check_tour, Block, Worth};
 use reference::entry::plan_tour;
 use reference::figures::{at_the_bound, figures, soft, start_marked, x};
-use reference::plan::{Automaton, Plan, Soft};
+use reference::handmade::{first_only, lane, one_place, second_move, sides, silent, x_under};
+use reference::plan::Plan;
 use reference::reader::Refusal;
-use reference::rules::{again, always, go, never};
+use reference::rules::{again, always, never};
 use std::path::Path;
 
 const FILL: u8 = 0xa5;
@@ -24,13 +25,6 @@ fn broken(plan: &Plan, run_in: &[u8], cycle: &[u8]) -> u64 {
     }
 }
 
-fn silent() -> Automaton {
-    Automaton {
-        accept: 0,
-        ..always()
-    }
-}
-
 #[test]
 fn tours_of_plan_x() {
     assert_eq!(worth(&x(), &[], &[0, 1]), (true, 0, 3));
@@ -43,14 +37,12 @@ fn tours_of_plan_x() {
 
 #[test]
 fn not_accepted_is_no_refusal() {
-    let hard = again(1);
-    let plan = Plan { hard, ..x() };
+    let plan = x_under(again(1));
     assert_eq!(worth(&plan, &[], &[0, 1]), (false, 0, 3));
     assert_eq!(worth(&plan, &[], &[0, 2]), (true, 5, 0));
     assert_eq!(worth(&plan, &[0, 2], &[0, 1]), (false, 2, 1));
     // Nor is it one where the planner finds no tour at all.
-    let hard = silent();
-    let plan = Plan { hard, ..x() };
+    let plan = x_under(silent());
     assert_eq!(worth(&plan, &[], &[0, 1, 0, 2]), (false, 2, 1));
 }
 
@@ -147,20 +139,9 @@ fn a_plan_without_roads_has_no_tour() {
 #[test]
 fn readings_that_01_shuts_out() {
     // An accepting state in the run-in alone.
-    let first_only = Automaton {
-        states: 2,
-        first: 0,
-        accept: 1,
-        moves: vec![go(0, 0, 0, 1), go(1, 0, 0, 1)],
-    };
-    let lane = |rule: Automaton| Plan {
-        labels: vec![0, 0],
-        soft: vec![soft(1, rule)],
-        ..start_marked()
-    };
-    assert_eq!(worth(&lane(first_only.clone()), &[0], &[1]), (true, 1, 0));
+    assert_eq!(worth(&lane(first_only()), &[0], &[1]), (true, 1, 0));
     let hard = Plan {
-        hard: first_only,
+        hard: first_only(),
         ..lane(always())
     };
     assert_eq!(worth(&hard, &[0, 1, 1], &[1, 1]), (false, 0, 1));
@@ -168,18 +149,7 @@ fn readings_that_01_shuts_out() {
     assert_eq!(worth(&start_marked(), &[0], &[1]), (true, 0, 1));
     assert_eq!(worth(&start_marked(), &[0, 1, 1], &[1]), (true, 0, 1));
     // Every fitting move is followed.
-    let later = Automaton {
-        states: 3,
-        first: 0,
-        accept: 4,
-        moves: vec![
-            go(0, 0, 0, 1),
-            go(0, 0, 0, 2),
-            go(1, 0, 0, 1),
-            go(2, 0, 0, 2),
-        ],
-    };
-    assert_eq!(worth(&lane(later), &[0], &[1]), (true, 0, 1));
+    assert_eq!(worth(&lane(second_move()), &[0], &[1]), (true, 0, 1));
     // The ditch is for a state without a fitting move: here the second label
     // finds none, whatever stands behind it.
     let unmarked = Plan {
@@ -191,19 +161,7 @@ fn readings_that_01_shuts_out() {
 
 #[test]
 fn two_turns_may_be_needed_for_the_state_to_return() {
-    let sides = Automaton {
-        states: 2,
-        first: 0,
-        accept: 2,
-        moves: vec![go(0, 0, 0, 1), go(1, 0, 0, 0)],
-    };
-    let plan = Plan {
-        labels: vec![0],
-        roads: vec![(0, 0)],
-        hard: sides,
-        soft: Vec::new(),
-        ..start_marked()
-    };
+    let plan = one_place(sides(), Vec::new());
     for turn in 1..6 {
         assert_eq!(worth(&plan, &[], &vec![0; turn]), (true, 0, 0));
         assert_eq!(worth(&plan, &[0], &vec![0; turn]), (true, 0, 0));
@@ -219,18 +177,11 @@ fn eight(kept: u8, weights: [u32; 8]) -> Plan {
             silent()
         }
     };
-    let soft = (0..8).zip(weights).map(|(i, weight)| Soft {
-        weight,
-        rule: rule(i),
-    });
-    Plan {
-        marks: 0,
-        labels: vec![0],
-        start: 0,
-        roads: vec![(0, 0)],
-        hard: always(),
-        soft: soft.collect(),
-    }
+    let rules = (0..8).zip(weights);
+    one_place(
+        always(),
+        rules.map(|(i, weight)| soft(weight, rule(i))).collect(),
+    )
 }
 
 #[test]
@@ -257,10 +208,9 @@ fn every_byte_of_the_block() {
     given[8..12].copy_from_slice(&[0x00, 0x24, 0xf4, 0x00]);
     assert_eq!(call(&eight(0x0f, [4_000_000; 8]), &[], &[0]), given);
 
-    let hard = silent();
     let mut given = vec![0; 24];
     (given[1], given[8]) = (1, 2);
-    assert_eq!(call(&Plan { hard, ..x() }, &[], &[0, 1, 0, 2]), given);
+    assert_eq!(call(&x_under(silent()), &[], &[0, 1, 0, 2]), given);
 
     let mut given = vec![0; 24];
     given[0] = 9;

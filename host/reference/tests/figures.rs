@@ -3,11 +3,12 @@
 use reference::brute::all_short_tours;
 use reference::entry::plan_tour;
 use reference::figures::{at_the_bound, figures, soft, start_marked, x};
+use reference::handmade::{first_only, lane, one_place, second_move, sides, silent, x_under};
 use reference::harness::check_figure;
 use reference::library::REFERENCE;
-use reference::plan::{Automaton, Plan};
+use reference::plan::Plan;
 use reference::reader::{read, Refusal};
-use reference::rules::{again, always, go, once};
+use reference::rules::{again, always, once};
 use reference::tour::judge;
 
 /// What the reference says of a file: number, line, cost, kept, count.
@@ -121,15 +122,7 @@ fn length_before_lines() {
 
 #[test]
 fn order_of_4_5_6_and_7() {
-    let silent = Automaton {
-        accept: 0,
-        ..always()
-    };
-    let none = Plan {
-        hard: silent,
-        ..x()
-    }
-    .text();
+    let none = x_under(silent()).text();
     let large = at_the_bound(true).text();
     let call = |file: &str, block: usize, run_in: usize| {
         plan_tour(
@@ -146,27 +139,11 @@ fn order_of_4_5_6_and_7() {
     assert_eq!(call("", 0, 0), 7);
 }
 
-/// Two places without marks, a road from the first to the second and from
-/// there to itself.
-fn lane(rule: Automaton) -> Plan {
-    Plan {
-        labels: vec![0, 0],
-        soft: vec![soft(1, rule)],
-        ..start_marked()
-    }
-}
-
 #[test]
 fn accepting_only_in_the_run_in_is_not_accepting() {
-    let once_only = Automaton {
-        states: 2,
-        first: 0,
-        accept: 1,
-        moves: vec![go(0, 0, 0, 1), go(1, 0, 0, 1)],
-    };
-    assert_eq!(kept(&lane(once_only.clone())), 0);
+    assert_eq!(kept(&lane(first_only())), 0);
     let hard = Plan {
-        hard: once_only,
+        hard: first_only(),
         soft: Vec::new(),
         ..lane(always())
     };
@@ -185,18 +162,7 @@ fn a_lone_place_without_a_road_to_itself_is_no_loop() {
 
 #[test]
 fn every_fitting_move_counts() {
-    let later = Automaton {
-        states: 3,
-        first: 0,
-        accept: 4,
-        moves: vec![
-            go(0, 0, 0, 1),
-            go(0, 0, 0, 2),
-            go(1, 0, 0, 1),
-            go(2, 0, 0, 2),
-        ],
-    };
-    assert_eq!(kept(&lane(later)), 1);
+    assert_eq!(kept(&lane(second_move())), 1);
 }
 
 #[test]
@@ -240,19 +206,7 @@ fn the_judge_on_tours_of_x() {
 #[test]
 fn two_turns_may_be_needed_for_the_state_to_return() {
     // The state changes sides at every turn of the one-place loop.
-    let sides = Automaton {
-        states: 2,
-        first: 0,
-        accept: 2,
-        moves: vec![go(0, 0, 0, 1), go(1, 0, 0, 0)],
-    };
-    let plan = Plan {
-        labels: vec![0],
-        start: 0,
-        roads: vec![(0, 0)],
-        hard: sides,
-        ..lane(always())
-    };
+    let plan = one_place(sides(), vec![soft(1, always())]);
     let verdict = judge(&plan, &[], &[0]);
     assert!(verdict.hard);
     assert_eq!(verdict.kept, 1);
