@@ -40,13 +40,17 @@
 **     move=q,need,bar,any,r   or of this one
 **     rules=K                 0 to 8
 **     soft=Q                  K blocks, the soft rules: 1 to 8 states
-**     weight=W                1 to 4,000,000
+**     weight=W                0 to 4,000,000
 **     ...                     first, accept, moves and its move lines
 **
 ** A move leads from state q to state r under a label that has every mark of
 ** need and no mark of bar; these are bits, as in a label.  With five numbers
 ** the label must also have at least one mark of any, unless any is 0: a move
 ** for "kerb or ramp".  Four numbers mean an any of 0.
+**
+** A rule of weight 0 only watches: it costs nothing, its kept bit is exact, and
+** between tours of equal cost it counts in the tie as any other.  As the last
+** rule it changes neither the cost nor which other rules are kept.
 */
 #ifndef PLANTOUR_H
 #define PLANTOUR_H

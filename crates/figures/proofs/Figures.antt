@@ -2,7 +2,7 @@
 --   passes-holds == that of one figure
 --   all-pass     == all figures pass: the plan files are read and the parts and routes tested, by computing
 --   figures-hold == all figures hold
-use mathlib.Core.Path.{_≡_, refl, ap₂, subst}
+use mathlib.Core.Path.{_≡_, refl, ap, ap₂, subst}
 use mathlib.Core.Bool.{Bool, true, false, not, _&&_}
 use mathlib.Core.List.{List, [], _∷_}
 use mathlib.Core.Logic.{_⊎_, inl, inr}
@@ -18,7 +18,7 @@ use Rattle.automata.specs.Automaton.{guard, fits, leads, step, blocked, trapSte
 use Rattle.automata.specs.Acceptance.{lassoAt}
 use Rattle.base.specs.Bits.{bit}
 use Rattle.base.proofs.Tests.{and-left, and-right, false-not-true, all-elim}
-use Rattle.plan.specs.WellFormed.{WellFormed}
+use Rattle.plan.specs.WellFormed.{weight, WellFormed}
 use Rattle.plan.specs.Size.{size}
 use Rattle.plan.specs.Tour.{IsLasso, Hard, Soft, joins}
 use Rattle.plan.specs.Cost.{keeps, KeptIs, cost, costOf, Better}
@@ -42,9 +42,9 @@ use Rattle.optimality.proofs.Best.{lasso-drive, hard-unrolls, soft-unrolls, tou
 use Rattle.serve.specs.Upcoming.{upcomingPlaces}
 use Rattle.figures.specs.Bytes.{bytes}
 use Rattle.figures.specs.Certificate.{implies, everyOf, someOf, listed, shades, parted, walksBy}
-use Rattle.figures.specs.Claim.{Room, Numbers, tour, refusal, Answers, Dear}
-use Rattle.figures.specs.Figure.{Route, Reason, best, none, short, Figure, answers, dear, served, planOf, Holds}
-use Rattle.figures.specs.Figure.{isPlan, allOf, alike, reasonTests, lighter, dearTests, same, isRead, passes}
+use Rattle.figures.specs.Claim.{Room, Numbers, tour, refusal, Answers, Dear, Tied}
+use Rattle.figures.specs.Figure.{Route, Reason, best, none, short, Figure, answers, dear, tied, served, planOf, Holds}
+use Rattle.figures.specs.Figure.{isPlan, allOf, alike, reasonTests, lighter, dearTests, tiedTests, same, isRead, passes}
 use Rattle.figures.specs.Cases.{figures}
 use Rattle.figures.proofs.Certificates.{mp, offered, best-by, none-by}
 use Rattle.figures.proofs.Routes.{all-nth, stem, cycle, lasso, hard, softs}
@@ -140,6 +140,27 @@ module _ (p : Plan) (ok : WellFormed p) (rule least k : ℕ) (cs : List (List �
     dear = costs;
   }
 
+-- ---- a rule of weight 0 that decides
+
+module _ (p : Plan) (ok : WellFormed p) (rule k k′ : ℕ) (r : Route) (h : allOf (tiedTests p rule k k′ r) ≡ true) where
+  passed : (i : ℕ) → getD (tiedTests p rule k k′ r) i true ≡ true
+  passed = all-nth (tiedTests p rule k k′ r) h
+
+  tied-holds : Tied p rule k k′
+  tied-holds = record {
+    costs = eqb-true (cost p k) (cost p k′) (passed 0);
+    stem = stem p ok k′ r (passed 1);
+    cycle = cycle p ok k′ r (passed 1);
+    lasso = lasso p ok k′ r (passed 1);
+    hard = hard p ok k′ r (passed 1);
+    kept = softs p ok k′ r (passed 1);
+    listed = ltb-true rule (p .rules) (passed 2);
+    before = λ i l. ap (λ b. eqb b 1) (eqb-true (bit k i) (bit k′ i) (all-elim (λ i. eqb (bit k i) (bit k′ i)) rule (passed 3) i l));
+    has = passed 4;
+    lacks = rw (eqb-true (bit k′ rule) 0 (passed 5));
+    watches = eqb-true (weight p rule) 0 (passed 6);
+  }
+
 -- ---- the list
 
 pub passes-holds : (f : Figure) → passes f ≡ true → Holds f
@@ -151,6 +172,9 @@ passes-holds (answers text n room x by) h =
 passes-holds (dear text rule least k cs r) h =
     let test = all-nth (isRead text ∷ allOf (dearTests (planOf text) rule least k cs r) ∷ []) h in
     dear-holds (planOf text) (read-well (bytes text) (plan-sound _ (test 0))) rule least k cs r (test 1)
+passes-holds (tied text rule k k′ r) h =
+    let test = all-nth (isRead text ∷ allOf (tiedTests (planOf text) rule k k′ r) ∷ []) h in
+    tied-holds (planOf text) (read-well (bytes text) (plan-sound _ (test 0))) rule k k′ r (test 1)
 passes-holds (served stem cycle t part) h = same-sound (upcomingPlaces stem cycle t) part h
 
 pass : List Figure → Bool

@@ -1,14 +1,18 @@
--- The cases of 01's "Figures to check against" that are marked P, and one of its "Wrong readings to shut out", as entries of one list.
+-- The cases of 01's "Figures to check against" that are marked P, one of its "Wrong readings to shut out", and one of our own for 02's note 5, as
+-- entries of one list.
 -- What stands behind a claim's numbers is why it holds: the nodes that the start reaches, part by part, and a route.
 --   caseN, case10Short         == the cases; case 9 is three figures, one for each step
 --   heaviestLost, heaviestDear == "taking rules one by one from the heaviest": the rule of weight 3 could be kept, at a cost of 4 or
 --                                 more, but the answer keeps the two of weight 2 and costs 3
+--   watchDecides, watchTied    == case 4 keeps the first of two rules that exclude each other, at equal weights; a rule of weight 0 in front of
+--                                 them, which watches for what the second wants, turns it. The other set is to be had at the same cost,
+--                                 and this rule is the first on which the two differ
 --   figures                    == the list
 use mathlib.Core.List.{List, [], _∷_}
 use Prim.Native.Nat.{ℕ}
-use Rattle.figures.specs.Plans.{planX, plan2, plan3, plan4, plan5, plan6, plan7, plan8, bridge}
+use Rattle.figures.specs.Plans.{planX, plan2, plan3, plan4, plan5, plan6, plan7, plan8, watched, bridge}
 use Rattle.figures.specs.Claim.{atLeast, exactly, tour, refusal}
-use Rattle.figures.specs.Figure.{Route, Reason, best, none, short, Figure, answers, dear, served}
+use Rattle.figures.specs.Figure.{Route, Reason, best, none, short, Figure, answers, dear, tied, served}
 
 abbrev pub route : List ℕ → ℕ → List ℕ → Route
 route stem home cycle = record { stem = stem; home = home; cycle = cycle }
@@ -63,7 +67,15 @@ heaviestLost = answers bridge 189 (atLeast 189 945) (tour 3 6 2) (best partsBrid
 abbrev pub heaviestDear : Figure
 heaviestDear = dear bridge 0 4 1 partsBridge (route (0 ∷ 27 ∷ []) 54 (54 ∷ 28 ∷ []))
 
+abbrev pub watchDecides : Figure
+watchDecides =
+    answers watched 54 (atLeast 54 270) (tour 4 5 2)
+    (best ((0 ∷ 18 ∷ []) ∷ (36 ∷ []) ∷ (3 ∷ 10 ∷ 21 ∷ 39 ∷ []) ∷ []) (route (0 ∷ 36 ∷ []) 10 (10 ∷ 39 ∷ [])))
+
+abbrev pub watchTied : Figure
+watchTied = tied watched 0 5 2 (route [] 0 (0 ∷ 18 ∷ []))
+
 abbrev pub figures : List Figure
 figures =
     case1 ∷ case2 ∷ case3 ∷ case4 ∷ case5 ∷ case6 ∷ case7 ∷ case8 ∷ case9 1 (6 ∷ []) ∷ case9 2 (7 ∷ 8 ∷ 9 ∷ []) ∷ case9 6 (8 ∷ 9 ∷ [])
-    ∷ case10 ∷ case10Short ∷ heaviestLost ∷ heaviestDear ∷ []
+    ∷ case10 ∷ case10Short ∷ heaviestLost ∷ heaviestDear ∷ watchDecides ∷ watchTied ∷ []

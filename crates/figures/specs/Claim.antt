@@ -8,14 +8,17 @@
 --                          returns the number of x, and the sixteen bytes that it leaves in the block say x
 --   Dear p rule least   == every other soft rule of p weighs less than soft rule `rule` + 1, and some tour that the hard rule accepts
 --                          keeps it; but every such tour costs at least `least`
+--   Tied p rule k k′    == the sets k and k′ cost the same, some tour that the hard rule accepts keeps k′, and the first rule on which they
+--                          differ is soft rule `rule` + 1, which k has; it weighs nothing
 use mathlib.Core.Path.{_≡_}
+use mathlib.Core.Bool.{true, false}
 use mathlib.Core.List.{List}
 use mathlib.Core.Logic.{_≢_}
 use Prim.Native.Nat.{ℕ, _≤_, _<_}
 use lib.ListN.{length, take}
 use Rattle.plan.specs.WellFormed.{weight}
 use Rattle.plan.specs.Tour.{IsLasso, Hard, Soft}
-use Rattle.plan.specs.Cost.{KeptIs, cost}
+use Rattle.plan.specs.Cost.{keeps, KeptIs, cost}
 use Rattle.plan.specs.declared.Plan.{Plan}
 use Rattle.answer.specs.Block.{answerOf}
 use Rattle.answer.specs.declared.Answer.{Answer}
@@ -61,3 +64,16 @@ pub record Dear (p : Plan) (rule least : ℕ) : Type 0 where
   pub hard : Hard p stem cycle
   pub kept : Soft p stem cycle rule
   pub dear : (stem cycle : List ℕ) → IsLasso p stem cycle → Hard p stem cycle → Soft p stem cycle rule → (k : ℕ) → KeptIs p stem cycle k → least ≤ cost p k
+
+pub record Tied (p : Plan) (rule k k′ : ℕ) : Type 0 where
+  pub costs : cost p k ≡ cost p k′
+  pub stem : List ℕ
+  pub cycle : List ℕ
+  pub lasso : IsLasso p stem cycle
+  pub hard : Hard p stem cycle
+  pub kept : (i : ℕ) → i < p .rules → keeps k′ i ≡ true → Soft p stem cycle i
+  pub listed : rule < p .rules
+  pub before : (i : ℕ) → i < rule → keeps k i ≡ keeps k′ i
+  pub has : keeps k rule ≡ true
+  pub lacks : keeps k′ rule ≡ false
+  pub watches : weight p rule ≡ 0

@@ -7,6 +7,7 @@
 --   Figure                    == a claim, with what confirms it
 --     answers text n room x   == N of the plan file is n, and it is answered by x
 --     dear text rule least k  == keeping that rule costs at least `least`; k is the best set that has the rule
+--     tied text rule k k′     == a rule of weight 0 decides between the sets k and k′
 --     served stem cycle t part == the upcoming places at step t
 --   planOf text               == the plan that a plan file reads as
 --   Holds f                   == the claim
@@ -20,6 +21,7 @@ use lib.Count.{ones}
 use lib.ListN.{length, getD}
 use lib.Dec.{eqb, ltb, leb}
 use Rattle.base.specs.Below.{anyBelow, allBelow}
+use Rattle.base.specs.Bits.{bit}
 use Rattle.automata.specs.Automaton.{final}
 use Rattle.plan.specs.WellFormed.{soft, weight}
 use Rattle.plan.specs.Size.{size, roomy}
@@ -32,7 +34,7 @@ use Rattle.reader.specs.declared.Outcome.the-variants as outcome
 use Rattle.compile.specs.Product.{startNode, hardOf, softOf}
 use Rattle.serve.specs.Upcoming.{upcomingPlaces}
 use Rattle.figures.specs.Bytes.{bytes}
-use Rattle.figures.specs.Claim.{Room, atLeast, exactly, Numbers, tour, refusal, Answers, Dear}
+use Rattle.figures.specs.Claim.{Room, atLeast, exactly, Numbers, tour, refusal, Answers, Dear, Tied}
 use Rattle.figures.specs.Certificate.{implies, certified, walksBy}
 
 pub record Route : Type 0 where
@@ -48,6 +50,7 @@ pub data Reason : Type 0 where
 pub data Figure : Type 0 where
   answers : (text : String) (n : ℕ) (room : Room) (x : Numbers) → Reason → Figure
   dear : (text : String) (rule least : ℕ) (kept : ℕ) → List (List ℕ) → Route → Figure
+  tied : (text : String) (rule k k′ : ℕ) → Route → Figure
   served : (stem cycle : List ℕ) (t : ℕ) (part : List ℕ) → Figure
 
 abbrev pub planOf : String → Plan
@@ -56,6 +59,7 @@ planOf text = readPlan (bytes text) .plan
 unfoldable pub Holds : Figure → Type 0
 Holds (answers text n room x by) = (size (planOf text) ≡ n) × Answers (bytes text) room x
 Holds (dear text rule least kept by route) = Dear (planOf text) rule least
+Holds (tied text rule k k′ route) = Tied (planOf text) rule k k′
 Holds (served stem cycle t part) = upcomingPlaces stem cycle t ≡ part
 
 -- ---- the tests
@@ -106,6 +110,11 @@ dearTests p rule least k cs r =
     ltb rule (p .rules) ∷ allBelow (p .rules) (lighter p rule) ∷ eqb (cost p k) least ∷ ltb k (2 ^ p .rules) ∷ keeps k rule
     ∷ certified p (λ m. implies (keeps m rule) (leb (key p k) (key p m))) cs ∷ allOf (driveTests p k r) ∷ []
 
+abbrev pub tiedTests : Plan → ℕ → ℕ → ℕ → Route → List Bool
+tiedTests p rule k k′ r =
+    eqb (cost p k) (cost p k′) ∷ allOf (driveTests p k′ r) ∷ ltb rule (p .rules) ∷ allBelow rule (λ i. eqb (bit k i) (bit k′ i)) ∷ keeps k rule
+    ∷ eqb (bit k′ rule) 0 ∷ eqb (weight p rule) 0 ∷ []
+
 abbrev pub same : List ℕ → List ℕ → Bool
 same [] [] = true
 same [] (y ∷ ys) = false
@@ -118,4 +127,5 @@ isRead text = isPlan (readPlan (bytes text) .outcome)
 unfoldable pub passes : Figure → Bool
 passes (answers text n room x by) = allOf (isRead text ∷ eqb (size (planOf text)) n ∷ leb n 2048 ∷ allOf (reasonTests (planOf text) room x by) ∷ [])
 passes (dear text rule least k cs r) = allOf (isRead text ∷ allOf (dearTests (planOf text) rule least k cs r) ∷ [])
+passes (tied text rule k k′ r) = allOf (isRead text ∷ allOf (tiedTests (planOf text) rule k k′ r) ∷ [])
 passes (served stem cycle t part) = same (upcomingPlaces stem cycle t) part

@@ -1,9 +1,11 @@
 -- The plan files of the figures. Each is written as the blocks of lines that it is made of, since most are plan X of 01 with one
 -- block changed.
 --   mapX, roadsX, hardX, softX == the blocks of plan X: from `tour` to `start`, the roads, the hard rule, the soft rules
+--   soft4                      == the soft rules of case 4, without their count
 --   again0, again1, never1     == the automata of 01's "again m" and "never m", from `first` on
 --   planX                      == plan X
 --   planN                      == the plan of case N
+--   watched                    == plan 4 behind a rule that only watches whether mark 1 comes again and again
 --   bridge                     == `plans/bridge.plan`: a plan where the heaviest rule can be kept, and is not worth it
 use Prim.Native.String.{String, _++_}
 
@@ -37,8 +39,14 @@ plan2 = mapX ++ "roads=2\nroad=0,2\nroad=2,0\n" ++ hardX ++ softX
 abbrev pub plan3 : String
 plan3 = mapX ++ roadsX ++ "hard=2\n" ++ again1 ++ softX
 
+abbrev pub soft4 : String
+soft4 = "soft=1\nweight=4\n" ++ never1 ++ "soft=2\nweight=4\n" ++ again1
+
 abbrev pub plan4 : String
-plan4 = mapX ++ roadsX ++ hardX ++ "rules=2\nsoft=1\nweight=4\n" ++ never1 ++ "soft=2\nweight=4\n" ++ again1
+plan4 = mapX ++ roadsX ++ hardX ++ "rules=2\n" ++ soft4
+
+abbrev pub watched : String
+watched = mapX ++ roadsX ++ hardX ++ "rules=3\nsoft=2\nweight=0\n" ++ again1 ++ soft4
 
 abbrev pub plan5 : String
 plan5 = mapX ++ roadsX ++ "hard=1\nfirst=0\naccept=0\nmoves=1\nmove=0,0,0,0\n" ++ softX

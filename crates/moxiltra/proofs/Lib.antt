@@ -2,3 +2,4 @@
 pub mod Blocks
 pub mod RoundTrip
 pub mod OwnTour
+pub mod AsBefore

@@ -10,3 +10,4 @@ pub mod Counts
 pub mod Rooms
 pub mod Numbers
 pub mod Rules
+pub mod Watching

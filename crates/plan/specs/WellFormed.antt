@@ -44,7 +44,6 @@ pub record WellFormed (p : Plan) : Type 0 where
   pub to : Below (p .places) (p .to)
   pub hard : automaton.WellFormed 16 (2 ^ p .marks) (p .hard)
   pub softs : (i : ℕ) → i < p .rules → automaton.WellFormed 8 (2 ^ p .marks) (soft p i)
-  pub light : (i : ℕ) → i < p .rules → 1 ≤ weight p i
   pub heavy : (i : ℕ) → i < p .rules → weight p i ≤ 4000000
   pub rest-labels : ZeroFrom (p .places) (p .labels)
   pub rest-from : ZeroFrom (p .roads) (p .from)

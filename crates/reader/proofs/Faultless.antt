@@ -14,7 +14,7 @@ use Rattle.automata.specs.declared.Automaton.{Automaton}
 use Rattle.text.specs.Line.{lineOfOne, firstOf, finish}
 use Rattle.reader.specs.Line.{roadLine, moveLine}
 use Rattle.reader.specs.Keys.{firstKey, acceptKey, movesKey, hardKey, softKey, weightKey}
-use Rattle.reader.specs.Blocks.{Filling, moveBlock, automatonBlock, hardBlock, softBlock, softStep, softBlocks}
+use Rattle.reader.specs.Blocks.{Filling, moveBlock, automatonBlock, hardBlock, weightLine, softBlock, softStep, softBlocks}
 use Rattle.text.specs.declared.line.Numbers.{Numbers}
 use Rattle.text.specs.declared.line.Line.{Line}
 use Rattle.text.specs.declared.line.Line.the-variants as line
@@ -111,7 +111,6 @@ module _ (s : List ℕ) (l : Line) (q labels : ℕ) (e : good (automatonBlock s 
 
 pub record SoftRead (labels : ℕ) (a : Automaton) (w : ℕ) : Type 0 where
   pub well : automaton.WellFormed 8 labels a
-  pub light : 1 ≤ w
   pub heavy : w ≤ 4000000
 
 module _ (s : List ℕ) (l : Line) (labels : ℕ) (m : 1 ≤ labels) where
@@ -126,12 +125,11 @@ module _ (s : List ℕ) (l : Line) (labels : ℕ) (m : 1 ≤ labels) where
   unfolding softBlock
   soft-read e =
       let states = lineOfOne s l softKey 1 9 in
-      let weight = lineOfOne s states weightKey 1 4000001 in
-      let w = one-good s states weightKey 1 4000001 (first-good s weight (firstOf states) labels e .was) in
+      let weight = weightLine s states in
+      let w = one-good s states weightKey _ _ (first-good s weight (firstOf states) labels e .was) in
       let h = one-good s l softKey 1 9 (w .was) in
       record {
         well = automaton-read s weight (firstOf states) labels e 8 (h .least) (omega (arith, h .below)) m;
-        light = w .least;
         heavy = omega (arith, w .below);
       }
 

@@ -8,3 +8,4 @@ pub mod Columns
 pub mod Faultless
 pub mod WellRead
 pub mod Fours
+pub mod Weights

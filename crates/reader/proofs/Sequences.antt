@@ -3,9 +3,9 @@
 use mathlib.Core.Path.{_≡_}
 use mathlib.Core.List.{List}
 use Prim.Native.Nat.{ℕ, _^_}
-use Rattle.reader.specs.Keys.{tourKey, marksKey, placesKey, startKey, roadsKey, firstKey, acceptKey, movesKey, softKey, weightKey}
+use Rattle.reader.specs.Keys.{tourKey, marksKey, placesKey, startKey, roadsKey, firstKey, acceptKey, movesKey, softKey}
 use Rattle.text.specs.Line.{lineOfOne, firstOf, top}
-use Rattle.reader.specs.Blocks.{labelBlock, roadBlock, moveBlock, automatonBlock, softBlock}
+use Rattle.reader.specs.Blocks.{labelBlock, roadBlock, moveBlock, automatonBlock, weightLine, softBlock}
 use Rattle.reader.specs.Map.{mapOf}
 use Rattle.text.specs.declared.line.Line.{Line}
 use Rattle.reader.specs.declared.block.LabelBlock.{LabelBlock}
@@ -27,7 +27,7 @@ module _ (s : List ℕ) (l : Line) (labels : ℕ) where
   automaton-made q first sets accept count n x a b e1 e2 e3 e4 e5 e6 e7 e8 = rw (e8, e7, e6, e5, e4, e3, e2, e1)
 
   pub soft-made : (states weight : Line) (q : ℕ) (x : AutomatonBlock) (w : ℕ)
-      → states ≡ lineOfOne s l softKey 1 9 → weight ≡ lineOfOne s states weightKey 1 4000001
+      → states ≡ lineOfOne s l softKey 1 9 → weight ≡ weightLine s states
       → q ≡ firstOf states → x ≡ automatonBlock s weight q labels → w ≡ firstOf weight
       → _≡_ {A = SoftBlock} (record { line = x .line; automaton = x .automaton; weight = w }) (softBlock s l labels)
   unfolding softBlock

@@ -10,7 +10,7 @@ use Rattle.text.specs.Fault as fault
 use Rattle.text.specs.Line.{lineOfOne, firstOf, top, finish}
 use Rattle.reader.specs.Line.{roadLine, moveLine}
 use Rattle.reader.specs.Keys.{tourKey, marksKey, placesKey, startKey, roadsKey, firstKey, acceptKey, movesKey, hardKey, rulesKey, softKey, weightKey}
-use Rattle.reader.specs.Blocks.{repeat, Filling, labelStep, labelBlock, roadStep, roadBlock, moveStep, moveBlock, automatonBlock, hardBlock, softBlock, softStep, softBlocks}
+use Rattle.reader.specs.Blocks.{repeat, Filling, labelStep, labelBlock, roadStep, roadBlock, moveStep, moveBlock, automatonBlock, hardBlock, weightLine, softBlock, softStep, softBlocks}
 use Rattle.reader.specs.Map.{mapOf}
 use Rattle.reader.specs.Reading.{draftOf}
 use Rattle.text.specs.declared.fault.Fault.the-variants.{Form}
@@ -66,7 +66,7 @@ module _ (s : List ℕ) (P : Line → Type 0) (k : Sticky s P) where
   unfolding softBlock
   soft-keeps l labels p =
       let states = lineOfOne s l softKey 1 9 in
-      automaton-keeps (lineOfOne s states weightKey 1 4000001) _ labels (k .one states weightKey 1 4000001 (k .one l softKey 1 9 p))
+      automaton-keeps (weightLine s states) _ labels (k .one states weightKey _ _ (k .one l softKey 1 9 p))
 
   pub softs-keep : (l : Line) (n labels : ℕ) → P l → P (softBlocks s l n labels .line)
   unfolding softBlocks

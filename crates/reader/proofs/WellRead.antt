@@ -114,7 +114,6 @@ module _ (s : List ℕ) (e : good (draftOf s .line) ≡ true) where
         to = column-below n _ _ (p .least) (roads .to);
         hard = hard-read s (mapOf s .line) bound bound-some (rules-good .was);
         softs = λ i h. softs .read softs-good i h (omega arith) .well;
-        light = λ i h. softs .read softs-good i h (omega arith) .light;
         heavy = λ i h. softs .read softs-good i h (omega arith) .heavy;
         rest-labels = labels .rest;
         rest-from = roads .from .rest;

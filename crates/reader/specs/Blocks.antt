@@ -7,6 +7,7 @@
 --   moveBlock s prior n q labels    == n move lines of an automaton of q states; need, bar and any are below labels
 --   automatonBlock s prior q labels == first, accept, moves=T and T move lines of an automaton of q states
 --   hardBlock s prior labels        == hard=Q and its automaton
+--   weightLine s prior              == weight=W, 0 to 4,000,000 (02, note 5: a rule of weight 0 only watches)
 --   softBlock s prior labels        == soft=Q, weight=W and its automaton
 --   softBlocks s prior n labels     == n soft rules
 use mathlib.Core.List.{List}
@@ -101,10 +102,13 @@ hardBlock s prior labels =
     let states = lineOfOne s prior hardKey 1 17 in
     automatonBlock s states (firstOf states) labels
 
+abbrev pub weightLine : List ℕ → Line → Line
+weightLine s prior = lineOfOne s prior weightKey 0 4000001
+
 unfoldable pub softBlock : List ℕ → Line → ℕ → SoftBlock
 softBlock s prior labels =
     let states = lineOfOne s prior softKey 1 9 in
-    let weight = lineOfOne s states weightKey 1 4000001 in
+    let weight = weightLine s states in
     let x = automatonBlock s weight (firstOf states) labels in
     record { line = x .line; automaton = x .automaton; weight = firstOf weight }
 

@@ -170,7 +170,7 @@ pub fn soft_block(s: &[u8], prior: Line, labels: u32) -> SoftBlock
     ensures { λ r. ⌜ r ≡ softBlock (now (s .entry)) prior labels ⌝ }
 {
     let states = line_of_one(s, prior, b"soft=", 1, 9);
-    let weight = line_of_one(s, states, b"weight=", 1, 4000001);
+    let weight = line_of_one(s, states, b"weight=", 0, 4000001);
     let x = automaton_block(s, weight, first_of(states), labels);
     let line = x.line;
     let automaton = x.automaton;

@@ -13,8 +13,8 @@ pub struct Search {
     pub places: usize,
     /// What the best one keeps, if the hard rule accepts any.
     pub kept: Option<u8>,
-    /// Another of the same cost keeps other rules.
-    pub tied: bool,
+    /// All that tours of the same cost keep, each byte once.
+    pub least: Vec<u8>,
     pub judged: usize,
 }
 
@@ -69,13 +69,15 @@ impl Search {
         if !verdict.hard {
             return;
         }
-        let better = self.kept.is_none_or(|held| plan.better(verdict.kept, held));
-        match self.kept {
-            Some(held) if plan.cost(held) == verdict.cost => self.tied |= held != verdict.kept,
-            _ if better => self.tied = false,
-            _ => {}
+        match self.kept.map(|held| plan.cost(held)) {
+            Some(cost) if cost < verdict.cost => return,
+            Some(cost) if cost == verdict.cost => {}
+            _ => self.least.clear(),
         }
-        if better {
+        if !self.least.contains(&verdict.kept) {
+            self.least.push(verdict.kept);
+        }
+        if self.kept.is_none_or(|held| plan.better(verdict.kept, held)) {
             self.kept = Some(verdict.kept);
         }
     }

@@ -4,11 +4,13 @@
 use crate::damage::{damage, every_damage, Harmed};
 use crate::figures::{figures, soft, x};
 use crate::guards::{either, with_any, ALIKE, ALL, SAME};
+use crate::handmade::one_place;
 use crate::maps::{all_roads, chance_roads, labels, places_within};
-use crate::plan::{Automaton, Plan, Soft, MAX_PLACES, MAX_PLAN_BYTES, MAX_SIZE};
+use crate::plan::{Automaton, Plan, MAX_PLACES, MAX_PLAN_BYTES, MAX_SIZE};
 use crate::random::Random;
 use crate::rules::{again, always, go, go_any, never, once, soft_rules, some_rule};
 use crate::shapes::{large, Shape, SHAPES};
+use crate::watchers::{hand_worked, with_watchers};
 
 /// A file to plan, or a text to read as an answer, bytes that lie behind it in
 /// memory but are not part of it, and how many bytes lie on either side of each
@@ -41,11 +43,12 @@ impl Case {
     }
 }
 
-/// Files for buffers of every length about the limits: the figures of 01, one
-/// that is too long, and the largest plans without and with eight soft rules.
+/// Files for buffers of every length about the limits: the figures of 01, those
+/// with rules that only watch, one that is too long, and the largest plans
+/// without and with eight soft rules.
 pub fn limit_cases() -> Vec<Case> {
-    let of_01 = figures().into_iter();
-    let mut cases: Vec<Case> = of_01
+    let all = figures().into_iter().chain(hand_worked());
+    let mut cases: Vec<Case> = all
         .map(|figure| Case::new(&format!("figure {}", figure.name), figure.file))
         .collect();
     cases.push(Case::new("too long", vec![b'1'; MAX_PLAN_BYTES + 1]));
@@ -91,6 +94,7 @@ pub fn case(number: u64) -> (Case, Random) {
     let mut source = Random::new(number.wrapping_mul(0x5851_f42d_4c95_7f2d).wrapping_add(1));
     let random = &mut source;
     let case = match number % 16 {
+        4 if number % 32 == 4 => intact("watching", watching(random)),
         0..=4 => intact("tiny", tiny(random)),
         5 => intact("tied", tied(random)),
         6..=8 => intact("small", small(random)),
@@ -104,7 +108,8 @@ pub fn case(number: u64) -> (Case, Random) {
                 _ => random.between(64, MAX_SIZE as usize) as u64,
             };
             let plan = large(shape, size, random);
-            intact(shape.name(), with_any(random, plan, ALIKE))
+            let plan = with_any(random, plan, ALIKE);
+            intact(shape.name(), with_watchers(random, plan))
         }
         _ => intact("oversized", oversized(random)),
     };
@@ -164,20 +169,15 @@ pub fn tiny(random: &mut Random) -> Plan {
         hard,
         soft,
     };
-    with_any(random, plan, ALL)
+    let plan = with_any(random, plan, ALL);
+    with_watchers(random, plan)
 }
 
 /// A tiny plan whose soft rules exclude each other at equal weight, or one
 /// excludes two that weigh as much together.
 pub fn tied(random: &mut Random) -> Plan {
     let mark = random.below(2) as u8;
-    // The start lacks the mark, or `never` were lost at once.
-    let start = random.below(3) as u8;
-    let mut labels: Vec<u8> = (0..3).map(|_| random.below(4) as u8).collect();
-    labels[start as usize] &= !(1 << mark);
-    let mut roads = all_roads(3);
-    random.shuffle(&mut roads);
-    roads.truncate(random.between(4, 9));
+    let map = three_places(random, mark);
     let unit = random.between(1, 2_000_000) as u32;
     let mut rules = match random.below(3) {
         0 => vec![(1, never(mark)), (1, once(mark))],
@@ -185,24 +185,67 @@ pub fn tied(random: &mut Random) -> Plan {
         _ => vec![(2, never(mark)), (1, once(mark)), (1, again(mark))],
     };
     random.shuffle(&mut rules);
-    let soft = |(units, rule)| Soft {
-        weight: units * unit,
-        rule,
+    with_rules(random, map, unit, rules)
+}
+
+/// A tiny plan in which a rule that only watches settles a tie, or should not:
+/// before the rules that weigh something, behind one, or with no other rule.
+pub fn watching(random: &mut Random) -> Plan {
+    let mark = random.below(2) as u8;
+    let map = three_places(random, mark);
+    // Where 1 is taken for 0, the least weight shows it.
+    let unit = match random.once_in(2) {
+        true => 1,
+        false => random.between(1, 4_000_000) as u32,
     };
+    // Two that exclude each other, and one that has little to do with them.
+    let mut pair = [never(mark), random.pick(&[once, again])(mark)];
+    random.shuffle(&mut pair);
+    let [one, other] = pair;
+    let free = random.pick(&[never, once, again])(1 - mark);
+    let rules = match random.below(6) {
+        0 => vec![(0, other.clone()), (1, one), (1, other)],
+        1 => vec![(1, free), (0, other.clone()), (1, one), (1, other)],
+        2 => vec![(1, free), (0, one), (0, other)],
+        3 => vec![(0, free), (0, one), (0, other)],
+        // Here what weighs something decides.
+        4 => vec![(1, one), (0, other.clone()), (1, other)],
+        _ => vec![(0, other), (1, one)],
+    };
+    with_rules(random, map, unit, rules)
+}
+
+/// Three places, two marks and some roads. The start lacks the mark, or `never`
+/// were lost at once.
+fn three_places(random: &mut Random, mark: u8) -> Plan {
+    let start = random.below(3) as u8;
+    let mut labels: Vec<u8> = (0..3).map(|_| random.below(4) as u8).collect();
+    labels[start as usize] &= !(1 << mark);
+    let mut roads = all_roads(3);
+    random.shuffle(&mut roads);
+    roads.truncate(random.between(4, 9));
+    Plan {
+        marks: 2,
+        labels,
+        start,
+        roads,
+        ..one_place(always(), Vec::new())
+    }
+}
+
+/// The map with a hard rule by chance and these soft ones, which weigh so many
+/// units each.
+fn with_rules(random: &mut Random, map: Plan, unit: u32, rules: Vec<(u32, Automaton)>) -> Plan {
+    let rules = rules.into_iter();
+    let soft = rules
+        .map(|(units, rule)| soft(units * unit, rule))
+        .collect();
     let hard = if random.once_in(2) {
         always()
     } else {
         some_rule(random, 2, 2)
     };
-    let plan = Plan {
-        marks: 2,
-        labels,
-        start,
-        roads,
-        hard,
-        soft: rules.into_iter().map(soft).collect(),
-    };
-    with_any(random, plan, SAME)
+    with_any(random, Plan { hard, soft, ..map }, SAME)
 }
 
 /// A plan of some hundred nodes.
@@ -228,7 +271,8 @@ pub fn small(random: &mut Random) -> Plan {
         hard,
         soft,
     };
-    with_any(random, plan, ALL)
+    let plan = with_any(random, plan, ALL);
+    with_watchers(random, plan)
 }
 
 /// A plan with N above the bound, by a little or by much.
@@ -249,5 +293,5 @@ pub fn oversized(random: &mut Random) -> Plan {
             plan.soft.extend(soft_rules(random, 1, 1, plan.marks));
         }
     }
-    plan
+    with_watchers(random, plan)
 }

@@ -23,6 +23,9 @@ pub struct Checked {
     /// the sum of the weights.
     accepted: [usize; 2],
     between: usize,
+    /// Tours that do not keep some rule that only watches, and tours that keep
+    /// one.
+    watched: [usize; 2],
     /// Places in all lists, and the most in the two of one call.
     places: usize,
     longest: usize,
@@ -48,6 +51,10 @@ impl Checked {
     pub fn worth(&mut self, plan: &Plan, worth: Worth) {
         self.accepted[worth.accepted as usize] += 1;
         self.between += (0 < worth.cost && worth.cost < plan.cost(0)) as usize;
+        let watching = plan.watching();
+        for (count, kept) in self.watched.iter_mut().zip([!worth.kept, worth.kept]) {
+            *count += (watching & kept != 0) as usize;
+        }
     }
 
     /// What a run of some length should have met, and how often it did.
@@ -70,6 +77,10 @@ impl Checked {
         all.push(("a drawn tour not accepted".into(), not_accepted));
         let between = "a drawn tour that costs something but not all";
         all.push((between.into(), self.between));
+        let [lost, kept] = self.watched;
+        all.push(("a drawn tour that keeps a rule of weight 0".into(), kept));
+        let lacking = "a drawn tour that does not keep a rule of weight 0";
+        all.push((lacking.into(), lost));
         all
     }
 }
@@ -91,12 +102,15 @@ impl fmt::Display for Checked {
             .map(|(cause, count)| format!("{} {count}", cause.name()))
             .collect();
         let [not_accepted, accepted] = self.accepted;
+        let [lost, kept] = self.watched;
         writeln!(
             f,
             "drawn tours: {}\n\
              broken by: {}\n\
              accepted: {accepted}, not accepted: {not_accepted}; \
-             that cost something but not all: {}; places: {}, {} at most in one",
+             that cost something but not all: {}; \
+             that keep a rule of weight 0: {kept}, that do not keep one: {lost}; \
+             places: {}, {} at most in one",
             kinds.join(", "),
             causes.join(", "),
             self.between,

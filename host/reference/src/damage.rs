@@ -12,8 +12,8 @@ const BEHIND: &[u8] = b"0,0\nmove=0,0,0,0\n";
 
 /// All that one harm of some kinds makes of the file: a cut at each byte, each
 /// bit flipped, each line dropped, each doubled, each two swapped, each number
-/// raised by what a machine word loses, or very long, and each move line with
-/// other numbers.
+/// raised by what a machine word loses, or very long, and each move line and
+/// each weight line with other numbers.
 pub fn every_damage(text: &[u8]) -> Vec<Harmed> {
     let mut all = Vec::new();
     for at in 0..text.len() {
@@ -51,7 +51,7 @@ pub fn every_damage(text: &[u8]) -> Vec<Harmed> {
         add("number very long", with("9".repeat(300)));
     }
     for (i, line) in whole.iter().enumerate() {
-        for (kind, other) in other_moves(line) {
+        for (kind, other) in other_moves(line).into_iter().chain(other_weights(line)) {
             let mut lines = whole.clone();
             lines[i] = other;
             add(kind, lines.concat());
@@ -91,9 +91,10 @@ pub fn damage(text: &[u8], random: &mut Random) -> Harmed {
             behind = file.split_off(file.len() - 1);
             "last byte cut"
         }
-        6..=10 => harm_lines(&mut file, random),
-        11..=15 => harm_number(&mut file, random),
-        16..=19 => harm_move(&mut file, random),
+        6..=9 => harm_lines(&mut file, random),
+        11..=14 => harm_number(&mut file, random),
+        10 | 15 => harm_key(&mut file, random, WEIGHT, other_weights),
+        16..=19 => harm_key(&mut file, random, MOVE, other_moves),
         20 => {
             let with_return = |&byte: &u8| {
                 if byte == b'\n' {
@@ -156,29 +157,61 @@ fn value(number: &[u8]) -> u64 {
         .fold(0, |n, &byte| n * 10 + (byte - b'0') as u64)
 }
 
-/// Puts another line in the place of a move line, or of a line by chance if
-/// there is none.
-fn harm_move(file: &mut Vec<u8>, random: &mut Random) -> &'static str {
+/// Puts another line in the place of one with this key; if there is none, it
+/// harms lines by chance.
+fn harm_key(
+    file: &mut Vec<u8>,
+    random: &mut Random,
+    key: &[u8],
+    others: fn(&[u8]) -> Vec<Other>,
+) -> &'static str {
     let mut lines = lines(file);
-    let moves: Vec<usize> = (0..lines.len())
-        .filter(|&i| lines[i].starts_with(MOVE))
+    let with_key: Vec<usize> = (0..lines.len())
+        .filter(|&i| lines[i].starts_with(key))
         .collect();
-    if moves.is_empty() {
+    if with_key.is_empty() {
         return harm_lines(file, random);
     }
-    let at = *random.pick(&moves);
-    let (kind, other) = random.pick(&other_moves(&lines[at])).clone();
+    let at = *random.pick(&with_key);
+    let (kind, other) = random.pick(&others(&lines[at])).clone();
     lines[at] = other;
     *file = lines.concat();
     kind
 }
 
+/// What is done to a line, and the line in its place.
+type Other = (&'static str, Vec<u8>);
+
 const MOVE: &[u8] = b"move=";
+const WEIGHT: &[u8] = b"weight=";
+
+/// What may stand in the place of a weight line: 0 and what may be taken for it,
+/// and numbers about the ends of its range. For any other line there is nothing.
+fn other_weights(line: &[u8]) -> Vec<Other> {
+    let all = [
+        ("weight 0", "0"),
+        ("weight at an end", "1"),
+        ("weight at an end", "4000000"),
+        ("weight out of range", "4000001"),
+        ("weight out of range", "4294967296"),
+        ("weight of no form", ""),
+        ("weight of no form", "00"),
+        ("weight of no form", "-0"),
+        ("weight of no form", "+0"),
+        ("weight of no form", "0,0"),
+    ];
+    match line.starts_with(WEIGHT) {
+        true => all
+            .map(|(kind, number)| (kind, [WEIGHT, number.as_bytes(), b"\n"].concat()))
+            .to_vec(),
+        false => Vec::new(),
+    }
+}
 
 /// What may stand in the place of a move line: other counts of numbers, an any
 /// about the ends of its range, and faults of form and of range in one line.
 /// For any other line there is nothing.
-fn other_moves(line: &[u8]) -> Vec<(&'static str, Vec<u8>)> {
+fn other_moves(line: &[u8]) -> Vec<Other> {
     let text = line
         .strip_prefix(MOVE)
         .and_then(|text| text.strip_suffix(b"\n"));

@@ -64,25 +64,32 @@ pub fn at_the_bound(with_rule: bool) -> Plan {
     }
 }
 
+impl Figure {
+    pub fn planned(name: &'static str, plan: Plan, number: u32, cost: u32, kept: u8) -> Figure {
+        Figure {
+            number,
+            cost,
+            kept,
+            ..Figure::refused(name, plan.text().as_bytes(), 0, 0)
+        }
+    }
+
+    pub fn refused(name: &'static str, file: &[u8], number: u32, line: u32) -> Figure {
+        Figure {
+            name,
+            file: file.to_vec(),
+            buffers: (2_048, 20_480),
+            number,
+            line,
+            cost: 0,
+            kept: 0,
+        }
+    }
+}
+
 pub fn figures() -> Vec<Figure> {
-    let planned = |name, plan: Plan, number, cost, kept| Figure {
-        name,
-        file: plan.text().into_bytes(),
-        buffers: (2_048, 20_480),
-        number,
-        line: 0,
-        cost,
-        kept,
-    };
-    let refused = |name, file: &[u8], number| Figure {
-        name,
-        file: file.to_vec(),
-        buffers: (2_048, 20_480),
-        number,
-        line: 1,
-        cost: 0,
-        kept: 0,
-    };
+    let planned = Figure::planned;
+    let refused = |name, file, number| Figure::refused(name, file, number, 1);
     let still = Automaton {
         moves: Vec::new(),
         ..never(1)

@@ -3,7 +3,7 @@
 use crate::figures::{soft, start_marked, x};
 use crate::maps::all_roads;
 use crate::plan::{Automaton, Plan, Soft};
-use crate::rules::{always, go, rule};
+use crate::rules::{again, always, go, never, rule};
 
 /// One place without marks, and a road from it to itself.
 pub fn one_place(hard: Automaton, soft: Vec<Soft>) -> Plan {
@@ -15,6 +15,19 @@ pub fn one_place(hard: Automaton, soft: Vec<Soft>) -> Plan {
         hard,
         soft,
     }
+}
+
+/// One place, and eight rules that accept its tours where `kept` has a bit.
+pub fn eight_rules(kept: u8, weights: [u32; 8]) -> Plan {
+    let rule = |i: usize| match kept >> i & 1 {
+        1 => always(),
+        _ => silent(),
+    };
+    let rules = weights.into_iter().enumerate();
+    one_place(
+        always(),
+        rules.map(|(i, weight)| soft(weight, rule(i))).collect(),
+    )
 }
 
 /// Two places with every road, the second with the mark.
@@ -40,6 +53,15 @@ pub fn lane(rule: Automaton) -> Plan {
 /// Plan X with another hard rule.
 pub fn x_under(hard: Automaton) -> Plan {
     Plan { hard, ..x() }
+}
+
+/// Plan X with a rule before its own and one behind them that only watch.
+pub fn x_watching() -> Plan {
+    let [again_0, never_1] = [soft(3, again(0)), soft(2, never(1))];
+    Plan {
+        soft: vec![soft(0, again(1)), again_0, never_1, soft(0, never(0))],
+        ..x()
+    }
 }
 
 /// Accepts no tour.

@@ -36,7 +36,10 @@ pub fn check(
         let salt = random.byte();
         let found = one_call(library, case, plan, exact(plan), salt, tally)?;
         if let Some(plan) = plan {
-            no_better_tour(plan, found, random, tally)?;
+            let others = no_better_tour(plan, found, random, tally)?;
+            if let Some((kept, _)) = found {
+                tally.watched.answer(plan, kept, &others);
+            }
         }
         for _ in 0..further {
             let lengths = chance_lengths(plan, random);
@@ -177,13 +180,14 @@ fn chance_lengths(plan: Option<&Plan>, random: &mut Random) -> Lengths {
 }
 
 /// No tour at hand is better than the answer, and among all the short ones is
-/// one as good, if the answer's own tour is short.
+/// one as good, if the answer's own tour is short. Gives what the best of those
+/// tried keep, all of one cost.
 fn no_better_tour(
     plan: &Plan,
     found: Found,
     random: &mut Random,
     tally: &mut Tally,
-) -> Result<(), String> {
+) -> Result<Vec<u8>, String> {
     let beaten_by = |search: &Search| match (search.kept, found) {
         (None, _) => false,
         (Some(_), None) => true,
@@ -201,7 +205,7 @@ fn no_better_tour(
         let all = all_short_tours(plan, 250, 9);
         tally.tours_judged += all.judged;
         tally.tried += 1;
-        tally.tied += all.tied as usize;
+        tally.tied += (all.least.len() > 1) as usize;
         if beaten_by(&all) {
             return Err(format!(
                 "a short tour keeps {:?}, the answer {found:?}",
@@ -219,6 +223,7 @@ fn no_better_tour(
                 }
             }
         }
+        return Ok(all.least);
     }
-    Ok(())
+    Ok(some.least)
 }

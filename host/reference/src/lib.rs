@@ -21,6 +21,7 @@
 //! | `rules`, `maps`, `shapes` | automata, roads and large plans to generate |
 //! | `walks` | walks of a map, and where they close to tours |
 //! | `guards` | their move lines of five numbers |
+//! | `watchers` | their rules of weight 0, and plans with such rules that were worked out by hand |
 //! | `damage` | faulty files, made from good ones |
 //! | `slips` | what may stand in the place of one line of an answer |
 //! | `texts`, `batches` | texts to read as answers: fixed ones, and generated ones |
@@ -39,6 +40,7 @@
 //! | `finding` | a call of `check_tour` with guarded bytes, and what it leaves behind |
 //! | `checking` | one proposed tour put to both checkers, the answers set side by side |
 //! | `checked` | what a comparison has met of `check_tour` |
+//! | `watched` | what it has met of rules of weight 0 |
 //! | `tally` | what a comparison has met, and what it should have met |
 //! | `transcript` | a library's answers to generated plans, written down with their places |
 
@@ -83,3 +85,5 @@ pub mod tour;
 pub mod transcript;
 pub mod upcoming;
 pub mod walks;
+pub mod watched;
+pub mod watchers;

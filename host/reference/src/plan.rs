@@ -62,6 +62,7 @@ impl Automaton {
 
 #[derive(Clone, Debug, PartialEq, Eq)]
 pub struct Soft {
+    /// With 0 the rule only watches (02, note 5).
     pub weight: u32,
     pub rule: Automaton,
 }
@@ -97,6 +98,18 @@ impl Plan {
         moves.filter(|m| m.any.is_some()).count()
     }
 
+    /// The soft rules that only watch, a bit for each as in kept.
+    pub fn watching(&self) -> u8 {
+        let rules = self.soft.iter().enumerate();
+        rules.fold(0, |all, (i, soft)| all | ((soft.weight == 0) as u8) << i)
+    }
+
+    /// The soft rules that weigh something.
+    pub fn weighing(&self) -> u8 {
+        let all = (1u16 << self.soft.len()) - 1;
+        all as u8 & !self.watching()
+    }
+
     /// N: the places times the hard states times, for each soft rule, its
     /// states and the ditch.
     pub fn size(&self) -> u64 {
@@ -122,7 +135,8 @@ impl Plan {
             .sum()
     }
 
-    /// Whether a tour keeping `one` is better than a tour keeping `other`.
+    /// Whether a tour keeping `one` is better than a tour keeping `other`. At
+    /// equal cost the first rule that differs decides, whatever it weighs.
     pub fn better(&self, one: u8, other: u8) -> bool {
         let (cost, other_cost) = (self.cost(one), self.cost(other));
         if cost != other_cost {

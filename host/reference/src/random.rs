@@ -10,6 +10,12 @@ impl Random {
         Random { state: seed }
     }
 
+    /// Another source, fixed by where this one stands, which stays as it is.
+    pub fn aside(&self) -> Random {
+        let seed = Random { state: self.state }.word();
+        Random::new(seed)
+    }
+
     pub fn word(&mut self) -> u64 {
         self.state = self.state.wrapping_add(0x9e37_79b9_7f4a_7c15);
         let mut mixed = self.state;

@@ -88,7 +88,7 @@ fn read_plan(lines: &mut Lines) -> Result<Plan, Refusal> {
     let mut soft = Vec::new();
     for _ in 0..count {
         let states = lines.one("soft", 1..=MAX_SOFT_STATES)?;
-        let weight = lines.one("weight", 1..=MAX_WEIGHT)? as u32;
+        let weight = lines.one("weight", 0..=MAX_WEIGHT)? as u32;
         soft.push(Soft {
             weight,
             rule: read_body(lines, states, last_label)?,

@@ -5,7 +5,9 @@ use crate::cases::Case;
 use crate::checker::{Block, Worth};
 use crate::drawn::{Drawn, Known, MANY};
 use crate::figures::{at_the_bound, soft, start_marked, x};
-use crate::handmade::{first_only, one_place, second_move, silent, two_places, x_under};
+use crate::handmade::{
+    first_only, one_place, second_move, silent, two_places, x_under, x_watching,
+};
 use crate::plan::{Plan, MAX_PLAN_BYTES, MAX_SIZE};
 use crate::random::Random;
 use crate::reader::Refusal;
@@ -44,7 +46,7 @@ pub fn by_hand() -> Vec<ByHand> {
         labels: vec![0, 1],
         ..start_marked.clone()
     };
-    let choosing = &choosing();
+    let (choosing, watching) = (&choosing(), &x_watching());
     vec![
         row("keeps all", x, &[], &[0, 1], tour(true, 0, 3)),
         row("loses all", x, &[], &[0, 2], tour(true, 5, 0)),
@@ -64,6 +66,16 @@ pub fn by_hand() -> Vec<ByHand> {
             &[],
             &[0, 1],
             tour(true, 13, 2),
+        ),
+        row("watched, none", watching, &[], &[0, 1], tour(true, 0, 6)),
+        row("watched, both", watching, &[], &[0, 2], tour(true, 5, 9)),
+        row("watched, one", watching, &[0, 1], &[0, 2], tour(true, 5, 1)),
+        row(
+            "watched later",
+            watching,
+            &[0, 2],
+            &[0, 1],
+            tour(true, 2, 2),
         ),
         row("unknown place", x, &[0, 3], &[0, 1], at(1)),
         row("unknown place of the loop", x, &[0, 1], &[0, 255], at(3)),
@@ -122,9 +134,12 @@ pub fn small_maps() -> Vec<SmallMap> {
         labels: vec![1],
         ..one_place(counter(3, 0), marked)
     };
+    let all_watching = two_places(vec![soft(0, never(0)), soft(0, again(0))]);
     vec![
         row("plan X", x(), &[0, 1, 2, 255], (3, 3)),
         row("plan X, ramp again", x_under(again(1)), &[0, 1, 2], (3, 3)),
+        row("plan X, watching", x_watching(), &[0, 1, 2], (3, 3)),
+        row("all watching", all_watching, &[0, 1], (3, 3)),
         row("case 8", start_marked(), &[0, 1, 128], (3, 3)),
         row("choices", choosing(), &[0, 1], (4, 5)),
         row("one place", marked, &[0, 1], (4, 5)),

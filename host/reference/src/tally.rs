@@ -6,6 +6,7 @@ use crate::checked::Checked;
 use crate::plan::Plan;
 use crate::shapes::SHAPES;
 use crate::texts::FIXED;
+use crate::watched::Watched;
 use std::collections::BTreeMap;
 use std::fmt;
 
@@ -47,6 +48,7 @@ pub struct Tally {
     pub generated_texts: BTreeMap<String, usize>,
     pub read_back: [usize; 2],
     pub checked: Checked,
+    pub watched: Watched,
 }
 
 impl Tally {
@@ -69,6 +71,7 @@ impl Tally {
         if plan.fives() > 0 {
             self.fives += 1;
         }
+        self.watched.plan(plan);
         if plan.size() >= NEAR {
             *self.near.entry(kind.into()).or_default() += 1;
         }
@@ -138,6 +141,7 @@ impl Tally {
             ("a tour without a run-in".into(), self.followed[1]),
         ];
         let planning = numbers.chain(shapes).chain(others);
+        let planning = planning.chain(self.watched.due());
         let all = planning.chain(self.reading()).chain(self.checked.due());
         all.filter(|(_, count)| *count == 0)
             .map(|(what, _)| what)
@@ -162,6 +166,7 @@ impl fmt::Display for Tally {
             "plans with a choice of moves: {}; with a move line of five numbers: {}",
             self.choices, self.fives
         )?;
+        writeln!(f, "{}", self.watched)?;
         let near: Vec<String> = self
             .near
             .iter()

@@ -148,7 +148,7 @@ fn nothing_of_checking_is_lacking_after_some_cases() {
     let mut tally = Tally::default();
     assert_eq!(
         of_checking(&tally).len(),
-        7 + KINDS.len() + CAUSES.len() + 3
+        7 + KINDS.len() + CAUSES.len() + 5
     );
     let mut number = 0;
     while !of_checking(&tally).is_empty() && number < 500 {

@@ -502,6 +502,50 @@ fault!(gives_9_before_the_lines, |file, run_in, cycle, block| {
     }
 });
 
+fault!(
+    never_tells_a_watching_rule_kept,
+    |file, run_in, cycle, block| {
+        changed((file, run_in, cycle), block, |plan, told| {
+            let told = told?;
+            let kept = told.kept & !plan.watching();
+            Ok(Worth { kept, ..told })
+        })
+    }
+);
+
+fault!(
+    always_tells_a_watching_rule_kept,
+    |file, run_in, cycle, block| {
+        changed((file, run_in, cycle), block, |plan, told| {
+            let told = told?;
+            let kept = told.kept | plan.watching();
+            Ok(Worth { kept, ..told })
+        })
+    }
+);
+
+fault!(
+    charges_1_for_a_watching_rule,
+    |file, run_in, cycle, block| {
+        changed((file, run_in, cycle), block, |plan, told| {
+            let told = told?;
+            let lost = plan.watching() & !told.kept;
+            let cost = told.cost + lost.count_ones();
+            Ok(Worth { cost, ..told })
+        })
+    }
+);
+
+fault!(refuses_weight_0, |file, run_in, cycle, block| {
+    let text = String::from_utf8_lossy(file);
+    let text = text.replace("weight=0\n", "weight=4000001\n");
+    let told = check(text.as_bytes(), run_in, cycle);
+    match told {
+        Err(Refusal::Range { .. }) => tell(told, block),
+        _ => checker::check_tour(file, run_in, cycle, block),
+    }
+});
+
 /// Fills the block as the reference does, then spoils it.
 fn spoilt(
     (file, run_in, cycle): (&[u8], &[u8], &[u8]),

@@ -5,7 +5,7 @@ use reference::cases::case;
 use reference::entry::{self, Block};
 use reference::harness::check;
 use reference::library::{Library, REFERENCE};
-use reference::plan::{Automaton, Move, Plan};
+use reference::plan::{Automaton, Move, Plan, Soft};
 use reference::planner::best_tour;
 use reference::reader::{read, Refusal};
 use reference::serving::check_offsets;
@@ -339,6 +339,158 @@ fault!(forgets_the_soft_rules, |file, answer, run_in, cycle| {
         ..plan.clone()
     })
 });
+
+/// The file with this text in the place of another after `weight=`.
+fn with_weights(file: &[u8], old: &str, new: &str) -> Vec<u8> {
+    let [old, new] = [old, new].map(|number| format!("weight={number}").into_bytes());
+    let lines = file.split(|&byte| byte == b'\n');
+    let lines = lines.map(|line| if line == old { &new } else { line });
+    lines.collect::<Vec<&[u8]>>().join(&b'\n')
+}
+
+fault!(refuses_weight_0, |file, answer, run_in, cycle| {
+    let file = with_weights(file, "0", "4000001");
+    entry::plan_tour(&file, answer, run_in, cycle)
+});
+
+fault!(reads_weight_00, |file, answer, run_in, cycle| {
+    let file = with_weights(file, "00", "0");
+    entry::plan_tour(&file, answer, run_in, cycle)
+});
+
+fault!(reads_weight_minus_0, |file, answer, run_in, cycle| {
+    let file = with_weights(file, "-0", "0");
+    entry::plan_tour(&file, answer, run_in, cycle)
+});
+
+fault!(reads_no_weight_as_0, |file, answer, run_in, cycle| {
+    let file = with_weights(file, "", "0");
+    entry::plan_tour(&file, answer, run_in, cycle)
+});
+
+fault!(reads_weight_4000001, |file, answer, run_in, cycle| {
+    let file = with_weights(file, "4000001", "4000000");
+    entry::plan_tour(&file, answer, run_in, cycle)
+});
+
+/// The plan with its watching rules in other places, or without them.
+fn watching_instead(plan: &Plan, places: impl Fn(Vec<Soft>, Vec<Soft>) -> Vec<Soft>) -> Plan {
+    let soft = plan.soft.iter().cloned();
+    let (watching, weighing) = soft.partition(|soft| soft.weight == 0);
+    Plan {
+        soft: places(watching, weighing),
+        ..plan.clone()
+    }
+}
+
+fn without_watching(plan: &Plan) -> Plan {
+    watching_instead(plan, |_, weighing| weighing)
+}
+
+fault!(
+    leaves_watching_rules_out_of_ties,
+    |file, answer, run_in, cycle| { plan_instead(file, answer, run_in, cycle, without_watching) }
+);
+
+fault!(
+    settles_ties_by_weighing_rules_first,
+    |file, answer, run_in, cycle| {
+        plan_instead(file, answer, run_in, cycle, |plan| {
+            watching_instead(plan, |watching, weighing| [weighing, watching].concat())
+        })
+    }
+);
+
+fault!(
+    settles_ties_by_watching_rules_first,
+    |file, answer, run_in, cycle| {
+        plan_instead(file, answer, run_in, cycle, |plan| {
+            watching_instead(plan, |watching, weighing| [watching, weighing].concat())
+        })
+    }
+);
+
+fault!(plans_with_weight_1_for_0, |file, answer, run_in, cycle| {
+    plan_instead(file, answer, run_in, cycle, |plan| {
+        let mut other = plan.clone();
+        for soft in &mut other.soft {
+            soft.weight = soft.weight.max(1);
+        }
+        other
+    })
+});
+
+/// Answers as the reference does, but tells something else of the tour: of its
+/// cost, kept byte and count.
+fn tells_instead(
+    file: &[u8],
+    answer: &mut [u8],
+    run_in: &mut [u8],
+    cycle: &mut [u8],
+    other: impl Fn(&Plan, u32, u8) -> (u32, u8, u8),
+) -> u32 {
+    let number = entry::plan_tour(file, answer, run_in, cycle);
+    if number == 0 {
+        let cost = u32::from_le_bytes(answer[8..12].try_into().unwrap());
+        let (cost, kept, count) = other(&read(file).unwrap(), cost, answer[1]);
+        (answer[1], answer[2]) = (kept, count);
+        answer[8..12].copy_from_slice(&cost.to_le_bytes());
+    }
+    number
+}
+
+fault!(
+    never_tells_a_watching_rule_kept,
+    |file, answer, run_in, cycle| {
+        tells_instead(file, answer, run_in, cycle, |plan, cost, kept| {
+            let kept = kept & !plan.watching();
+            (cost, kept, kept.count_ones() as u8)
+        })
+    }
+);
+
+fault!(
+    always_tells_a_watching_rule_kept,
+    |file, answer, run_in, cycle| {
+        tells_instead(file, answer, run_in, cycle, |plan, cost, kept| {
+            let kept = kept | plan.watching();
+            (cost, kept, kept.count_ones() as u8)
+        })
+    }
+);
+
+fault!(
+    leaves_watching_rules_out_of_the_count,
+    |file, answer, run_in, cycle| {
+        tells_instead(file, answer, run_in, cycle, |plan, cost, kept| {
+            (cost, kept, (kept & plan.weighing()).count_ones() as u8)
+        })
+    }
+);
+
+fault!(
+    charges_1_for_a_watching_rule,
+    |file, answer, run_in, cycle| {
+        tells_instead(file, answer, run_in, cycle, |plan, cost, kept| {
+            let lost = (plan.watching() & !kept).count_ones();
+            (cost + lost, kept, kept.count_ones() as u8)
+        })
+    }
+);
+
+fault!(
+    leaves_watching_rules_out_of_n,
+    |file, answer, run_in, cycle| {
+        let number = entry::plan_tour(file, answer, run_in, cycle);
+        let plan = read(file).map(|plan| without_watching(&plan));
+        match plan {
+            Ok(plan) if number == 5 => {
+                entry::plan_tour(plan.text().as_bytes(), answer, run_in, cycle)
+            }
+            _ => number,
+        }
+    }
+);
 
 /// Makes a test that a server of upcoming places is found out, both by numbers
 /// alone and along the tours of the cases.

@@ -3,19 +3,20 @@
 //!     compare [--seconds S] [--first CASE] [--cases COUNT] [--bare] [--trace]
 //!     compare --transcript COUNT [--first CASE]
 //!
-//! First come the figures of 01, where upcoming places begin for some hundred
+//! First come the figures of 01, plans with rules that only watch whose answers
+//! were worked out by hand, where upcoming places begin for some hundred
 //! thousand lengths and steps, files with buffers of every length about the
-//! limits, two plans harmed in every way of some kinds, tours to check, and texts
-//! to read as answers; then cases in the order of their numbers, from CASE (0 if
-//! not given) on, until S seconds (20) have passed or COUNT cases are done. A case
-//! is a plan, tours to check beside it and a batch of texts to read, the same on
-//! every run. With
-//! --bare nothing lies about the plan and the buffers: a checker of memory then
-//! sees each step beyond them. With --trace each case is told before its first
-//! call. The first difference is printed with its case and its plan or text, and
-//! the program ends with 1; without one it ends with 0 after a tally. A run of 20
-//! seconds and more, not bounded by COUNT, also ends with 1 if something that
-//! it should have met is missing in the tally.
+//! limits, two plans harmed in every way of some kinds, tours to check, and
+//! texts to read as answers; then cases in the order of their numbers, from
+//! CASE (0 if not given) on, until S seconds (20) have passed or COUNT cases
+//! are done. A case is a plan, tours to check beside it and a batch of texts to
+//! read, the same on every run. With --bare nothing lies about the plan and the
+//! buffers: a checker of memory then sees each step beyond them. With --trace
+//! each case is told before its first call. The first difference is printed
+//! with its case and its plan or text, and the program ends with 1; without one
+//! it ends with 0 after a tally. A run of 20 seconds and more, not bounded by
+//! COUNT, also ends with 1 if something that it should have met is missing in
+//! the tally.
 //!
 //! With --transcript nothing is compared: what the library answers to the plans
 //! of COUNT cases, from CASE on, is written down with its places, a line for
@@ -39,6 +40,7 @@ use reference::sketches::{block_tours, by_hand, long_tours, small_maps};
 use reference::tally::Tally;
 use reference::texts::{block_texts, buffer_texts, fixed_texts};
 use reference::transcript::Transcript;
+use reference::watchers::hand_worked;
 use std::io::Write;
 use std::process::exit;
 use std::sync::Mutex;
@@ -87,8 +89,10 @@ fn main() {
     options.put("upcoming places", None, || {
         check_offsets(LIBRARY, &mut tally)
     });
-    for figure in figures() {
-        let name = format!("figure {} of 01", figure.name);
+    let of_01 = figures().into_iter().map(|figure| (figure, "01"));
+    let of_note_5 = hand_worked().into_iter().map(|figure| (figure, "note 5"));
+    for (figure, paper) in of_01.chain(of_note_5) {
+        let name = format!("figure {} of {paper}", figure.name);
         options.put(&name, Some(("plan", &figure.file)), || {
             check_figure(LIBRARY, &figure)
         });
