@@ -1,6 +1,7 @@
 //! Readers of a text: keys, decimal numbers and line numbers.
 ghost use mathlib.Core.Path.{_≡_};
 ghost use Prim.Native.Nat.{_+_, _-_, _*_, _≤_, _<_, min};
+ghost use lib.ListN.{length};
 ghost use Rattle.text.specs.Scan.{isDigit, canonical, keyAt, numberAt, nextNumber, elseNumber, either, valueOf, cap, newline, lineAt};
 
 // A number with the index just past it, or no number of good form there.
@@ -9,23 +10,31 @@ pub enum Number {
     Bad,
 }
 
+// How many bytes stand at index `at` and behind it.
+fn left(s: &[u8], at: usize) -> usize
+    ensures { λ r. ⌜ r ≡ length (now (s .entry)) - at ⌝ }
+{
+    if s.len() < at {
+        return 0;
+    }
+    s.len() - at
+}
+
 // The key, if it stands at index `at`, taken as a number: only the index just past it is ever used.
 pub fn key_at(s: &[u8], at: usize, key: &[u8]) -> Number
     ensures { λ r. ⌜ r ≡ keyAt (now (s .entry)) at (now (key .entry)) ⌝ }
 {
-    let mut i = at;
+    if left(s, at) < key.len() {
+        return Number::Bad;
+    }
     let mut j = 0;
     while j < key.len() {
-        if s.len() <= i {
+        if s[at + j] != key[j] {
             return Number::Bad;
         }
-        if s[i] != key[j] {
-            return Number::Bad;
-        }
-        i += 1;
         j += 1;
     }
-    Number::Value(0, i)
+    Number::Value(0, at + key.len())
 }
 
 fn digit(b: u8) -> bool
