@@ -33,6 +33,7 @@ static const char *const meaning[] = {
   "the answer block is too short",
   "the lines contradict each other",
   "the tour breaks",
+  "a road is listed twice",
 };
 
 /* The next 'count' places from step t, over as many turns as it takes. */

@@ -216,6 +216,50 @@ static void checks_a_tour(void) {
   assert(check[24] == 0xaa);
 }
 
+/* The least plan with its road twice: the later copy is line 8. */
+static const char doubled[] =
+  "tour=1\nmarks=0\nplaces=1\nlabel=0\nstart=0\nroads=2\nroad=0,0\nroad=0,0\n"
+  "hard=1\nfirst=0\naccept=1\nmoves=1\nmove=0,0,0,0\nrules=0\n";
+
+/* A road that is listed twice is refusal 10, which carries a line. */
+static void refuses_a_doubled_road(void) {
+  uint8_t answer[PLANTOUR_ANSWER_BYTES], check[PLANTOUR_CHECK_BYTES];
+  uint8_t runin[1] = {0xaa}, loop[2] = {0xaa, 0xaa};
+  const uint8_t *bytes = (const uint8_t *)doubled, place = 0;
+  size_t length = sizeof doubled - 1;
+  memset(answer, 0xaa, sizeof answer);
+  memset(check, 0xaa, sizeof check);
+  assert(plan_tour(bytes, length, answer, 15, runin, 1, loop, 2) == PLANTOUR_BLOCK);
+  assert(answer[0] == 0xaa);
+  assert(plan_tour(bytes, length, answer, 16, runin, 0, loop, 0) == PLANTOUR_DOUBLED);
+  assert(plantour_number(answer) == PLANTOUR_DOUBLED && plantour_line(answer) == 8);
+  assert(plan_tour(bytes, length, answer, 16, runin, 1, loop, 2) == PLANTOUR_DOUBLED);
+  assert(plantour_kept(answer) == 0 && plantour_count(answer) == 0);
+  assert(plantour_cost(answer) == 0 && plantour_loop_length(answer) == 0);
+  assert(runin[0] == 0xaa && loop[0] == 0xaa && loop[1] == 0xaa);
+  assert(check_tour(bytes, length, &place, 0, &place, 1, check, 24) == PLANTOUR_DOUBLED);
+  assert(plantour_check_number(check) == PLANTOUR_DOUBLED);
+  assert(plantour_check_line(check) == 8);
+  /* It comes before the tour's own faults. */
+  assert(check_tour(bytes, length, &place, 1, &place, 0, check, 24) == PLANTOUR_DOUBLED);
+  assert(plantour_check_index(check) == 0 && !plantour_check_accepts(check));
+}
+
+static void reads_the_answer_of_a_doubled_road(void) {
+  uint8_t reply[PLANTOUR_REPLY_BYTES], list[1] = {0xaa};
+  char said[] = "answer=10\nline=8\ncost=0\nkept=0\nrunin=\nloop=\n";
+  const uint8_t *bytes = (const uint8_t *)said;
+  size_t length = sizeof said - 1;
+  assert(read_answer(bytes, length, reply, 32, list, 0, list, 0) == PLANTOUR_OK);
+  assert(plantour_reply_answer(reply) == PLANTOUR_DOUBLED && plantour_reply_line(reply) == 8);
+  said[15] = '0'; /* line=0 */
+  assert(read_answer(bytes, length, reply, 32, list, 0, list, 0) == PLANTOUR_CLASH);
+  said[15] = '8';
+  said[8] = '1'; /* answer=11 */
+  assert(read_answer(bytes, length, reply, 32, list, 0, list, 0) == PLANTOUR_RANGE);
+  assert(plantour_reply_fault(reply) == 1 && plantour_reply_answer(reply) == 0);
+}
+
 int main(void) {
   decodes_the_block();
   decodes_the_reply();
@@ -226,5 +270,7 @@ int main(void) {
   reads_an_answer();
   finds_where_a_tour_breaks();
   checks_a_tour();
+  refuses_a_doubled_road();
+  reads_the_answer_of_a_doubled_road();
   return 0;
 }

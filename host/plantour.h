@@ -31,7 +31,7 @@
 **     label=L                 P lines; bit m is set if the place has mark m
 **     start=S                 the place at which every tour begins
 **     roads=R                 0 to 1,024
-**     road=A,B                R lines; one-way from A to B
+**     road=A,B                R lines; one-way from A to B, no road twice
 **     hard=Q                  the hard rule: 1 to 16 states
 **     first=F                 its first state
 **     accept=A                bit q is set if state q accepts
@@ -47,6 +47,9 @@
 ** need and no mark of bar; these are bits, as in a label.  With five numbers
 ** the label must also have at least one mark of any, unless any is 0: a move
 ** for "kerb or ramp".  Four numbers mean an any of 0.
+**
+** A road that is on two lines is almost always a slip for its return road, B,A,
+** so such a plan is turned away.  A move that is on two lines changes nothing.
 **
 ** A rule of weight 0 only watches: it costs nothing, its kept bit is exact, and
 ** between tours of equal cost it counts in the tie as any other.  As the last
@@ -100,9 +103,9 @@ extern "C" {
 
 /*
 ** What plan_tour() returns.  Of several causes the first in this order counts:
-** PLANTOUR_BLOCK, PLANTOUR_LONG, the first faulty line (PLANTOUR_FORM before
-** PLANTOUR_RANGE on the same line), PLANTOUR_LARGE, PLANTOUR_BUFFER,
-** PLANTOUR_NONE.
+** PLANTOUR_BLOCK, PLANTOUR_LONG, the first faulty line (on the same line
+** PLANTOUR_FORM before PLANTOUR_RANGE before PLANTOUR_DOUBLED), PLANTOUR_LARGE,
+** PLANTOUR_BUFFER, PLANTOUR_NONE.
 */
 #define PLANTOUR_OK     0 /* a tour was written */
 #define PLANTOUR_LONG   1 /* the plan has more than PLANTOUR_PLAN_BYTES bytes */
@@ -115,6 +118,8 @@ extern "C" {
 #define PLANTOUR_BUFFER 5 /* runin_len is below N or loop_len below (K+2)*N */
 #define PLANTOUR_NONE   6 /* the hard rule accepts no tour of this plan */
 #define PLANTOUR_BLOCK  7 /* answer_len is below PLANTOUR_ANSWER_BYTES */
+#define PLANTOUR_DOUBLED 10 /* a road is on an earlier line, too; the block
+                            ** names the line of the later copy */
 
 /*
 ** What read_answer() returns besides: PLANTOUR_OK, PLANTOUR_FORM,
@@ -124,7 +129,7 @@ extern "C" {
 
 /*
 ** What check_tour() returns besides: PLANTOUR_OK, PLANTOUR_LONG, PLANTOUR_FORM,
-** PLANTOUR_RANGE, PLANTOUR_LARGE, PLANTOUR_BLOCK, or
+** PLANTOUR_RANGE, PLANTOUR_DOUBLED, PLANTOUR_LARGE, PLANTOUR_BLOCK, or
 */
 #define PLANTOUR_BROKEN 9 /* the tour breaks; the block has the index */
 
@@ -206,7 +211,7 @@ static inline int plantour_keeps(const uint8_t *answer, unsigned rule) {
 ** each ended by byte 10, without spaces and in this order.  Numbers are decimal
 ** without a leading zero.
 **
-**     answer=N     0 for a tour, or 1 to 6, the number of the refusal
+**     answer=N     0 for a tour, or 1 to 6 or 10, the number of the refusal
 **     line=L       the faulty line of the plan, 0 to 65,535
 **     cost=C       0 to 32,000,000
 **     kept=K       0 to 255
@@ -235,9 +240,9 @@ static inline int plantour_keeps(const uint8_t *answer, unsigned rule) {
 ** PLANTOUR_RANGE on the same line; PLANTOUR_BUFFER (a list is longer than its
 ** buffer); PLANTOUR_CLASH.  The lines contradict each other if answer 0 stands
 ** beside an empty loop or a line other than 0; if another answer stands beside
-** a cost, a kept or a list that is not 0 or empty; if 2 or 3 stands beside line
-** 0, or 1, 4, 5 or 6 beside another line.  Missing lines and bytes after the
-** sixth line are faults of form, these of line 7.
+** a cost, a kept or a list that is not 0 or empty; if 2, 3 or 10 stands beside
+** line 0, or 1, 4, 5 or 6 beside another line.  Missing lines and bytes after
+** the sixth line are faults of form, these of line 7.
 **
 ** Returns 0 or the number of the refusal.  On PLANTOUR_BLOCK that number is all
 ** and no byte has been written.  Otherwise the block has:
@@ -320,8 +325,8 @@ static inline uint64_t plantour_reply_loop_length(const uint8_t *reply) {
 **
 ** Of several causes the first in this order counts: PLANTOUR_BLOCK (check_len
 ** is below PLANTOUR_CHECK_BYTES); PLANTOUR_LONG; the first faulty line of the
-** plan, PLANTOUR_FORM before PLANTOUR_RANGE on the same line; PLANTOUR_LARGE;
-** PLANTOUR_BROKEN.  A tour that the hard rule does not accept is no refusal:
+** plan, on the same line PLANTOUR_FORM before PLANTOUR_RANGE before
+** PLANTOUR_DOUBLED; PLANTOUR_LARGE; PLANTOUR_BROKEN.  A tour that the hard rule does not accept is no refusal:
 ** PLANTOUR_OK is returned, byte 2 is 0, and cost and kept are those of the tour.
 **
 ** PLANTOUR_BROKEN means that the two lists are no tour of this plan.  Places are

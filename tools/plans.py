@@ -1,4 +1,4 @@
-"""Plans as the tools that write stored cases have them (paper 01, "The plan file"; 02, note 1): automata, plan files, tours and frames.
+"""Plans as the tools that write stored cases have them (paper 01, "The plan file"; 02, notes 1 and 6): automata, plan files, tours and frames.
 
 A plan is a dict: marks, labels, start, roads, the hard automaton, and the soft rules as pairs of automaton and weight."""
 import os
@@ -52,7 +52,7 @@ def text(p):
 
 
 def parsed(content):
-    """The plan of a file that has no fault."""
+    """The plan of a file whose lines are right in form and range."""
     values = iter([tuple(map(int, line.split(b"=")[1].split(b","))) for line in content.splitlines()])
 
     def one():
@@ -94,6 +94,17 @@ def size(p):
     for a, _ in p["soft"]:
         n *= a.states + 1
     return n
+
+
+def turned_away(p):
+    """Number and line of the refusal that a plan has beside form and range: a road twice, then N; 0 and 0 where it has none."""
+    before = set()
+    for number, line in enumerate(lines(p), 1):
+        if line.startswith("road="):
+            if line in before:
+                return 10, number
+            before.add(line)
+    return (4 if size(p) > 2048 else 0), 0
 
 
 def accepts(a, ditch, runin, loop):
@@ -139,9 +150,10 @@ def breaks(p, runin, loop):
 
 
 def due(p, runin, loop):
-    """Number, line, index, accepts, cost and kept of a tour of a plan that was read."""
-    if size(p) > 2048:
-        return (4, 0, 0, 0, 0, 0)
+    """Number, line, index, accepts, cost and kept of a tour of a plan whose lines are right in form and range."""
+    number, line = turned_away(p)
+    if number:
+        return (number, line, 0, 0, 0, 0)
     broken = min(breaks(p, runin, loop), default=None)
     if broken is not None:
         return (9, 0, broken, 0, 0, 0)

@@ -1,5 +1,5 @@
--- "A repeated road or move changes nothing" (01, "The plan file"), and neither does their order: lists of the same entries pass the
--- same tests. Of roads this is said in crate plan, of moves here: the steps are the same, and so is what is accepted.
+-- A repeated move changes nothing (01, "The plan file"; 02, note 6), and neither does the order of moves: lists of the same entries pass the same
+-- tests. So the steps are the same, with the trap and without it, and so is what is accepted.
 --   Among xs n ys m    == each of the first n entries of xs is one of the first m of ys
 --   Relisted xs n ys m == and the other way round
 --   Repeated xs n ys m == ys is xs with one of its n entries once more, at any place
@@ -9,8 +9,10 @@
 --   RepeatedMove a b   == b is a with one of its moves once more
 --   repeated-same      == then they list the same moves
 --   Alike a b          == a and b have the same states, steps and blocked states
---   alike-hard, alike-soft == then they accept the same words
+--   alike-trap, alike-hard, alike-soft == then their steps with the trap are the same, and they accept the same words
 --   same-alike         == automata with the same moves are alike
+--   repeated-step, repeated-trap, repeated-hard, repeated-soft
+--                      == so a move that is listed once more changes no step, with the trap or without it, and no acceptance
 use mathlib.Core.Path.{_≡_, refl, sym, ap, _∙_}
 use mathlib.Core.Bool.{Bool, true, not, _&&_}
 use Prim.Native.Nat.{ℕ, suc, _+_, _-_, _≤_, _<_}
@@ -102,7 +104,7 @@ pub record Alike (a b : Automaton) : Type 0 where
   pub blocks : (x q : ℕ) → blocked a x q ≡ blocked b x q
 
 module _ (a b : Automaton) (s : Alike a b) where
-  alike-trap : (x q r : ℕ) → trapStep a x q r ≡ trapStep b x q r
+  pub alike-trap : (x q r : ℕ) → trapStep a x q r ≡ trapStep b x q r
   unfolding trapStep
   alike-trap x q r = rw (s .blocks x q, s .steps x q r, s .states)
 
@@ -127,3 +129,19 @@ module _ (a b : Automaton) (s : SameMoves a b) where
 
   pub same-alike : Alike a b
   same-alike = record { states = s .states; first = s .first; accept = s .accept; steps = same-step; blocks = same-blocked }
+
+module _ {a b : Automaton} (again : RepeatedMove a b) where
+  repeated-alike : Alike a b
+  repeated-alike = same-alike a b (repeated-same again)
+
+  pub repeated-step : (x q r : ℕ) → step a x q r ≡ step b x q r
+  repeated-step = repeated-alike .steps
+
+  pub repeated-trap : (x q r : ℕ) → trapStep a x q r ≡ trapStep b x q r
+  repeated-trap = alike-trap a b repeated-alike
+
+  pub repeated-hard : (w : ℕ → ℕ) (r l : ℕ) → HardAccepts a w r l ≡ HardAccepts b w r l
+  repeated-hard = alike-hard a b repeated-alike
+
+  pub repeated-soft : (w : ℕ → ℕ) (r l : ℕ) → SoftAccepts a w r l ≡ SoftAccepts b w r l
+  repeated-soft = alike-soft a b repeated-alike

@@ -3,21 +3,22 @@
 --   has-or, has-and           == the members of two sets joined, and of what they share
 --   members-or                == two sets joined
 --   members-same              == the same set by another property
+--   or-member                 == a member is joined to a set without a change
 --   members-lt                == a set of numbers below n is below 2 ^ n
 --   lowest-, without-lowest-  == a number that is not 0 has its lowest bit where its trailing zeros end; m AND (m - 1) has the other bits
 use mathlib.Core.Path.{_≡_, refl, sym, ap, _∙_}
-use mathlib.Core.Bool.{Bool, false, _&&_, _||_}
+use mathlib.Core.Bool.{Bool, true, false, _&&_, _||_}
 use Prim.Native.Nat.{ℕ, zero, suc, _+_, _-_, _/_, _%_, _^_, _≤_, _<_, min, max}
 use native.Mathlib.Nat.{pow-suc}
 use native.Mathlib.Decide.{decLt, ℕ-discrete}
 use native.Mathlib.Omega.{arith}
-use borrow.Author.Tests.{eq-eqb, ne-eqb}
+use borrow.Author.Tests.{eq-eqb, ne-eqb, eqb-true}
 use lib.Bits.{bitAnd, bitOr, and-le-r}
 use lib.Count.{trailingZeros, under}
 use lib.Dec.{eqb}
 use Rattle.base.specs.Bits.{bit, hasBit, Members}
 use Rattle.base.proofs.Tests.{false-not-true}
-use Rattle.base.proofs.Bits.{bit-lt, bit-zero, bit-and, bit-or, bits-lt, bit-add-same, bit-add-other}
+use Rattle.base.proofs.Bits.{bit-lt, bit-zero, bit-and, bit-or, bit-ext, bits-lt, bit-add-same, bit-add-other}
 
 pub members-none : Members 0 (λ i. false)
 members-none = record { has = λ i. rw (bit-zero i) }
@@ -66,6 +67,13 @@ bit-unset m i h = at (ℕ-discrete (bit m i) 1)
     at : Dec (bit m i ≡ 1) → bit m i ≡ 0
     at (yes e) = absurd (false-not-true (eq-eqb _ _ e) h)
     at (no e) = omega (arith, bit-lt m i)
+
+pub or-member : (m i : ℕ) → hasBit m i ≡ true → bitOr m (2 ^ i) ≡ m
+or-member m i h = bit-ext (bitOr m (2 ^ i)) m (λ k. bit-or m (2 ^ i) k ∙ at k (ℕ-discrete i k))
+  where
+    at : (k : ℕ) → Dec (i ≡ k) → max (bit m k) (bit (2 ^ i) k) ≡ bit m k
+    at k (yes e) = rw (← e) (omega (arith, eqb-true (bit m i) 1 h, bit-lt (2 ^ i) i))
+    at k (no e) = omega (arith, bit-unset (2 ^ i) k (members-one i .has k ∙ ne-eqb i k e))
 
 pub members-lt : {P : ℕ → Bool} (n m : ℕ) → Members m P → ((i : ℕ) → n ≤ i → P i ≡ false) → m < 2 ^ n
 members-lt n m p none = bits-lt n m (λ i l. bit-unset m i (p .has i ∙ none i l))

@@ -14,7 +14,7 @@ use mathlib.Core.Path.{_≡_, refl, sym, ap, _∙_, subst}
 use mathlib.Core.Bool.{Bool, true, false, cond}
 use mathlib.Core.Logic.{_↔_}
 use mathlib.Core.List.{List, _++_}
-use Prim.Native.Nat.{ℕ, _≤_}
+use Prim.Native.Nat.{ℕ}
 use native.Mathlib.Omega.{arith}
 use Rattle.base.specs.Least.{Found, nowhere, at}
 use Rattle.base.proofs.Tests.{false-not-true}
@@ -30,7 +30,7 @@ use Rattle.reader.specs.Outcome as reader
 use Rattle.reader.specs.Reading.{readPlan}
 use Rattle.reader.specs.declared.Outcome.{Outcome}
 use Rattle.reader.specs.declared.Outcome.the-variants as outcome
-use Rattle.reader.proofs.Answers.{read-low}
+use Rattle.reader.proofs.Answers.{Early, read-early}
 use Rattle.checker.specs.Break.{firstBreak}
 use Rattle.checker.specs.Check.{Ruling, refuse, judge, byBreak, ruling, Worthy, Ruled, RuledOf, CheckOf, number, indexOf}
 use Rattle.checker.specs.Outcome.{held}
@@ -150,12 +150,12 @@ module _ (p : Plan) (stem cycle : List ℕ) where
   own-worth k c ok fits lasso hard kept h =
       ruled-same (judge p) stem cycle c _ (subst (λ r. Ruled r stem cycle c) (tour-judged ok fits lasso) h) (hard-ruled k hard kept)
 
--- a plan file's own refusals have lower numbers, and so has that by the plan's size
-broken : (o : Outcome) (p : Plan) (stem cycle : List ℕ) (c : Check) → reader.number o ≤ 3 → RuledOf o p stem cycle c → number c ≡ 9
+-- a plan file's own refusals have other numbers, and so has that by the plan's size
+broken : (o : Outcome) (p : Plan) (stem cycle : List ℕ) (c : Check) → Early (reader.number o) → RuledOf o p stem cycle c → number c ≡ 9
     → (i : ℕ) × (firstBreak p stem cycle ≡ at i) × (indexOf c ≡ held i)
 unfolding ruling Ruled
-broken (outcome.Refused x) p stem cycle c low h n = absurd (omega (arith, ap number h))
-broken outcome.Plan p stem cycle c low h n = by (tooLarge p) (firstBreak p stem cycle) refl h
+broken (outcome.Refused x) p stem cycle c early h n = absurd (early .none 9 (omega arith) (omega arith) (omega (arith, ap number h)))
+broken outcome.Plan p stem cycle c early h n = by (tooLarge p) (firstBreak p stem cycle) refl h
   where
     by : (large : Bool) (f : Found) → firstBreak p stem cycle ≡ f → Ruled (cond large (refuse ProductTooLarge) (byBreak p f)) stem cycle c
         → (i : ℕ) × (firstBreak p stem cycle ≡ at i) × (indexOf c ≡ held i)
@@ -165,4 +165,4 @@ broken outcome.Plan p stem cycle c low h n = by (tooLarge p) (firstBreak p stem 
 
 pub index-of : (file stem cycle : List ℕ) (c : Check) → CheckOf file stem cycle c → number c ≡ 9
     → (i : ℕ) × (firstBreak (readPlan file .plan) stem cycle ≡ at i) × (indexOf c ≡ held i)
-index-of file stem cycle c = broken (readPlan file .outcome) (readPlan file .plan) stem cycle c (read-low file .0)
+index-of file stem cycle c = broken (readPlan file .outcome) (readPlan file .plan) stem cycle c (read-early file .0)

@@ -19,7 +19,7 @@ use borrow.Author.Tests.{leb-true}
 use lib.Dec.{leb, ltb}
 use lib.ListN.{length, drop}
 use Rattle.base.proofs.Tests.{and-left, and-right}
-use Rattle.text.specs.Line.{pair}
+use Rattle.text.specs.Line.{pair, good}
 use Rattle.text.specs.List.{listLine, placesOf}
 use Rattle.text.specs.Runs.{Stands}
 use Rattle.text.specs.declared.fault.Fault.{Fault}
@@ -28,7 +28,6 @@ use Rattle.text.specs.declared.line.Cursor.{Cursor}
 use Rattle.text.specs.declared.line.Line.{Line}
 use Rattle.text.specs.declared.line.Line.the-variants as line
 use Rattle.text.specs.declared.list.ListLine.{ListLine}
-use Rattle.text.proofs.Lines.{good}
 use Rattle.text.proofs.StoodLines.{follows-good, list-follows}
 use Rattle.answer.specs.Text.{runinKey, loopKey}
 use Rattle.drawn.specs.Drawing.{runinAt, draftAt, draftOf, lengthsOf, roomy, fitting, judge, drawnOf, readTour, runinOf, loopOf, written}

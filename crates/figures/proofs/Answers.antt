@@ -2,6 +2,7 @@
 -- its cost, kept byte and count: a tour with a best set, whichever it is, shows what they are.
 --   answers-tour   == a best set that some tour keeps is the answer
 --   answers-none   == where there is no tour, refusal 6 is
+--   turned-away    == a plan file that is turned away is answered by its refusal
 --   answers-short  == where a buffer is too short, refusal 5 is
 use mathlib.Core.Path.{_≡_, refl, sym, ap, _∙_, subst}
 use mathlib.Core.Bool.{true, false}
@@ -18,6 +19,8 @@ use Rattle.plan.specs.Size.{size, loopRoom, roomy}
 use Rattle.plan.specs.Tour.{IsLasso, Hard}
 use Rattle.plan.specs.Cost.{KeptIs, cost, Best}
 use Rattle.plan.specs.declared.Plan.{Plan}
+use Rattle.plan.specs.Refusal as refused
+use Rattle.plan.specs.declared.Refusal.{Refusal}
 use Rattle.plan.specs.declared.Refusal.the-variants as cause
 use Rattle.reader.specs.Reading.{readPlan}
 use Rattle.reader.specs.declared.Outcome.the-variants as outcome
@@ -27,7 +30,7 @@ use Rattle.planner.specs.Promise.{verdict, NoTour, Planned, none, tour as found
 use Rattle.planner.proofs.Unique.{best-unique}
 use Rattle.moxiltra.specs.Entries.{Buffers}
 use Rattle.moxiltra.proofs.Blocks.{answered, block-exact}
-use Rattle.figures.specs.Claim.{Room, atLeast, exactly, Fits, Numbers, tour, refusal, Tells, Answers}
+use Rattle.figures.specs.Claim.{Room, atLeast, exactly, Fits, Numbers, tour, refusal, Tells, Answers, Turned}
 use Rattle.figures.specs.Figure.{enough, lacking}
 
 -- ---- what planning came to
@@ -78,6 +81,14 @@ heard text room x tells b b′ r h f P =
     let A = answered text b b′ r h P in
     let t = tells b b′ (A .answer) f (A .told) in
     (A .returned ∙ t .number, subst (Tells x) (sym (block-exact text b b′ r h P)) t)
+
+pub turned-away : (text : List ℕ) (x : Refusal) → readPlan text .outcome ≡ outcome.Refused x → Turned text (refused.number x) (refused.lineOf x)
+unfolding verdict Told
+turned-away text x o b b′ r h P =
+    let A = answered text b b′ r h P in
+    let t : Refused x (b .runin) (b .loop) (b′ .runin) (b′ .loop) (A .answer) = rw o at (A .told) in
+    let e = block-exact text b b′ r h P in
+    (A .returned ∙ ap (λ a. a .number) (t .answer), ap (λ a. a .number) e ∙ ap (λ a. a .number) (t .answer), ap (λ a. a .line) e ∙ ap (λ a. a .line) (t .answer))
 
 module _ (text : List ℕ) (room : Room) (o : readPlan text .outcome ≡ outcome.Plan) (small : size (readPlan text .plan) ≤ 2048) where
   abbrev plan : Plan

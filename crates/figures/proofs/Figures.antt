@@ -2,7 +2,7 @@
 --   passes-holds == that of one figure
 --   all-pass     == all figures pass: the plan files are read and the parts and routes tested, by computing
 --   figures-hold == all figures hold
-use mathlib.Core.Path.{_≡_, refl, ap, ap₂, subst}
+use mathlib.Core.Path.{_≡_, refl, ap, ap₂, subst, transport}
 use mathlib.Core.Bool.{Bool, true, false, not, _&&_}
 use mathlib.Core.List.{List, [], _∷_}
 use mathlib.Core.Logic.{_⊎_, inl, inr}
@@ -23,9 +23,10 @@ use Rattle.plan.specs.Size.{size}
 use Rattle.plan.specs.Tour.{IsLasso, Hard, Soft, joins}
 use Rattle.plan.specs.Cost.{keeps, KeptIs, cost, costOf, Better}
 use Rattle.plan.specs.Key.{tie, keyOf, key}
+use Rattle.plan.specs.Refusal as refused
 use Rattle.plan.specs.declared.Plan.{Plan}
 use Rattle.plan.proofs.Keys.{key-mono, key-better}
-use Rattle.text.specs.Scan.{startsWith, isDigit, canonical, digitCount, value, leading, numberAt, keyAt}
+use Rattle.text.specs.Scan.{startsWith, isDigit, canonical, digitCount, value, leading, numberAt, keyAt, newlines, lineAt}
 use Rattle.text.specs.Line.{within, lineOfOne, finish}
 use Rattle.reader.specs.Line.{roadLine, moveLine}
 use Rattle.reader.specs.Blocks.{repeat, labelBlock, roadBlock, moveBlock, automatonBlock, hardBlock, softBlock, softBlocks}
@@ -42,13 +43,13 @@ use Rattle.optimality.proofs.Best.{lasso-drive, hard-unrolls, soft-unrolls, tou
 use Rattle.serve.specs.Upcoming.{upcomingPlaces}
 use Rattle.figures.specs.Bytes.{bytes}
 use Rattle.figures.specs.Certificate.{implies, everyOf, someOf, listed, shades, parted, walksBy}
-use Rattle.figures.specs.Claim.{Room, Numbers, tour, refusal, Answers, Dear, Tied}
-use Rattle.figures.specs.Figure.{Route, Reason, best, none, short, Figure, answers, dear, tied, served, planOf, Holds}
-use Rattle.figures.specs.Figure.{isPlan, allOf, alike, reasonTests, lighter, dearTests, tiedTests, same, isRead, passes}
+use Rattle.figures.specs.Claim.{Room, Numbers, tour, refusal, Answers, Turned, Dear, Tied}
+use Rattle.figures.specs.Figure.{Route, Reason, best, none, short, Figure, answers, turned, dear, tied, served, planOf, Holds}
+use Rattle.figures.specs.Figure.{isPlan, turnedAs, allOf, alike, reasonTests, lighter, dearTests, tiedTests, same, isRead, passes}
 use Rattle.figures.specs.Cases.{figures}
 use Rattle.figures.proofs.Certificates.{mp, offered, best-by, none-by}
 use Rattle.figures.proofs.Routes.{all-nth, stem, cycle, lasso, hard, softs}
-use Rattle.figures.proofs.Answers.{answers-tour, answers-none, answers-short}
+use Rattle.figures.proofs.Answers.{turned-away, answers-tour, answers-none, answers-short}
 
 same-sound : (xs ys : List ℕ) → same xs ys ≡ true → xs ≡ ys
 same-sound [] [] h = refl
@@ -94,6 +95,15 @@ module _ (text : List ℕ) (room : Room) (x : Numbers) (o : readPlan text .outco
   reason-holds short h =
       let test = all-nth (reasonTests p room x short) h in
       subst (Answers text room) (alike-sound (refusal 5) x (test 0)) (answers-short text room o small (test 1))
+
+-- ---- a refusal
+
+turned-holds : (text : List ℕ) (n line : ℕ) (o : Outcome) → readPlan text .outcome ≡ o → turnedAs o n line ≡ true → Turned text n line
+turned-holds text n line outcome.Plan e h = absurd (false-not-true h refl)
+turned-holds text n line (outcome.Refused x) e h =
+    let number = eqb-true (refused.number x) n (and-left (eqb (refused.number x) n) (eqb (refused.lineOf x) line) h) in
+    let at = eqb-true (refused.lineOf x) line (and-right (eqb (refused.number x) n) (eqb (refused.lineOf x) line) h) in
+    transport (λ i. Turned text (number i) (at i)) (turned-away text x e)
 
 -- ---- a rule that is not worth it
 
@@ -169,6 +179,7 @@ passes-holds (answers text n room x by) h =
     let test = all-nth (isRead text ∷ eqb (size (planOf text)) n ∷ leb n 2048 ∷ allOf (reasonTests (planOf text) room x by) ∷ []) h in
     let e = eqb-true (size (planOf text)) n (test 1) in
     (e, reason-holds (bytes text) room x (plan-sound _ (test 0)) (omega (arith, e, leb-true n 2048 (test 2))) by (test 3))
+passes-holds (turned text n line) h = turned-holds (bytes text) n line (readPlan (bytes text) .outcome) refl h
 passes-holds (dear text rule least k cs r) h =
     let test = all-nth (isRead text ∷ allOf (dearTests (planOf text) rule least k cs r) ∷ []) h in
     dear-holds (planOf text) (read-well (bytes text) (plan-sound _ (test 0))) rule least k cs r (test 1)
@@ -190,7 +201,7 @@ pass-holds (f ∷ fs) h (suc i) l = pass-holds fs (and-right (passes f) (pass fs
 all-pass : pass figures ≡ true
 unfolding pass passes allOf bytes upcomingPlaces
     readPlan answer draftOf mapOf labelBlock roadBlock moveBlock automatonBlock hardBlock softBlock softBlocks repeat
-    within lineOfOne roadLine moveLine finish startsWith isDigit canonical digitCount value leading numberAt keyAt
+    within lineOfOne roadLine moveLine finish startsWith isDigit canonical digitCount value leading numberAt keyAt newlines lineAt
     size productBelow everyOf someOf listed shades parted walksBy allBelow arcOf nodeOf tuple encode stride radices
     joins step trapStep blocked leads fits guard anyBelow final bit coloursBelow costOf keyOf tie sumBelow ones onesIn
 all-pass = refl

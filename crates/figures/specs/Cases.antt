@@ -1,5 +1,5 @@
--- The cases of 01's "Figures to check against" that are marked P, one of its "Wrong readings to shut out", and one of our own for 02's note 5, as
--- entries of one list.
+-- The cases of 01's "Figures to check against" that are marked P, one of its "Wrong readings to shut out", and some of our own for 02's notes 5 and
+-- 6, as entries of one list.
 -- What stands behind a claim's numbers is why it holds: the nodes that the start reaches, part by part, and a route.
 --   caseN, case10Short         == the cases; case 9 is three figures, one for each step
 --   heaviestLost, heaviestDear == "taking rules one by one from the heaviest": the rule of weight 3 could be kept, at a cost of 4 or
@@ -7,12 +7,15 @@
 --   watchDecides, watchTied    == case 4 keeps the first of two rules that exclude each other, at equal weights; a rule of weight 0 in front of
 --                                 them, which watches for what the second wants, turns it. The other set is to be had at the same cost,
 --                                 and this rule is the first on which the two differ
+--   doubled                    == a doubled road is refusal 10 with the line of the later copy, behind form and range of that line; the first faulty
+--                                 line decides. Both ways of one road are no fault: plan X has them
 --   figures                    == the list
 use mathlib.Core.List.{List, [], _∷_}
 use Prim.Native.Nat.{ℕ}
 use Rattle.figures.specs.Plans.{planX, plan2, plan3, plan4, plan5, plan6, plan7, plan8, watched, bridge}
+use Rattle.figures.specs.Plans.{doubledNext, doubledLater, doubledStay, doubledFar, doubledFirst, doubledBehind}
 use Rattle.figures.specs.Claim.{atLeast, exactly, tour, refusal}
-use Rattle.figures.specs.Figure.{Route, Reason, best, none, short, Figure, answers, dear, tied, served}
+use Rattle.figures.specs.Figure.{Route, Reason, best, none, short, Figure, answers, turned, dear, tied, served}
 
 abbrev pub route : List ℕ → ℕ → List ℕ → Route
 route stem home cycle = record { stem = stem; home = home; cycle = cycle }
@@ -75,7 +78,12 @@ watchDecides =
 abbrev pub watchTied : Figure
 watchTied = tied watched 0 5 2 (route [] 0 (0 ∷ 18 ∷ []))
 
+abbrev pub doubled : List Figure
+doubled =
+    turned doubledNext 10 10 ∷ turned doubledLater 10 13 ∷ turned doubledStay 10 10 ∷ turned doubledFar 3 9 ∷ turned doubledFirst 10 10
+    ∷ turned doubledBehind 2 10 ∷ []
+
 abbrev pub figures : List Figure
 figures =
     case1 ∷ case2 ∷ case3 ∷ case4 ∷ case5 ∷ case6 ∷ case7 ∷ case8 ∷ case9 1 (6 ∷ []) ∷ case9 2 (7 ∷ 8 ∷ 9 ∷ []) ∷ case9 6 (8 ∷ 9 ∷ [])
-    ∷ case10 ∷ case10Short ∷ heaviestLost ∷ heaviestDear ∷ watchDecides ∷ watchTied ∷ []
+    ∷ case10 ∷ case10Short ∷ heaviestLost ∷ heaviestDear ∷ watchDecides ∷ watchTied ∷ doubled

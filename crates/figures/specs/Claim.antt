@@ -6,6 +6,8 @@
 --   Tells x a           == the answer a tells the numbers x, and line 0
 --   Answers text room x == a call of `plan_tour` on the plan file `text`, with an answer block that is long enough and such buffers,
 --                          returns the number of x, and the sixteen bytes that it leaves in the block say x
+--   Turned text n line  == a call on the plan file `text`, with an answer block that is long enough, returns the refusal n, and the block says n
+--                          and that line
 --   Dear p rule least   == every other soft rule of p weighs less than soft rule `rule` + 1, and some tour that the hard rule accepts
 --                          keeps it; but every such tour costs at least `least`
 --   Tied p rule k k′    == the sets k and k′ cost the same, some tour that the hard rule accepts keeps k′, and the first rule on which they
@@ -54,6 +56,11 @@ pub record Tells (x : Numbers) (a : Answer) : Type 0 where
 abbrev pub Answers : List ℕ → Room → Numbers → Type 0
 Answers text room x =
     (b b′ : Buffers) (r : ℕ) → 16 ≤ length (b .block) → Fits room b → Promise text b b′ r → (r ≡ x .number) × Tells x (answerOf (take 16 (b′ .block)))
+
+abbrev pub Turned : List ℕ → ℕ → ℕ → Type 0
+Turned text n line =
+    (b b′ : Buffers) (r : ℕ) → 16 ≤ length (b .block) → Promise text b b′ r
+    → (r ≡ n) × (answerOf (take 16 (b′ .block)) .number ≡ n) × (answerOf (take 16 (b′ .block)) .line ≡ line)
 
 pub record Dear (p : Plan) (rule least : ℕ) : Type 0 where
   pub listed : rule < p .rules

@@ -6,6 +6,9 @@
 --   planX                      == plan X
 --   planN                      == the plan of case N
 --   watched                    == plan 4 behind a rule that only watches whether mark 1 comes again and again
+--   roadsOf roads              == plan X with these lines in place of its roads
+--   doubledNext, ..            == plans with a doubled road (02, note 6): the copy right behind it; with other roads between; of a road from a place
+--                                 to itself; written twice out of range; with a fault of form behind it, and before it
 --   bridge                     == `plans/bridge.plan`: a plan where the heaviest rule can be kept, and is not worth it
 use Prim.Native.String.{String, _++_}
 
@@ -33,8 +36,11 @@ softX = "rules=2\nsoft=2\nweight=3\n" ++ again0 ++ "soft=1\nweight=2\n" ++ never
 abbrev pub planX : String
 planX = mapX ++ roadsX ++ hardX ++ softX
 
+abbrev pub roadsOf : String → String
+roadsOf roads = mapX ++ roads ++ hardX ++ softX
+
 abbrev pub plan2 : String
-plan2 = mapX ++ "roads=2\nroad=0,2\nroad=2,0\n" ++ hardX ++ softX
+plan2 = roadsOf "roads=2\nroad=0,2\nroad=2,0\n"
 
 abbrev pub plan3 : String
 plan3 = mapX ++ roadsX ++ "hard=2\n" ++ again1 ++ softX
@@ -52,7 +58,7 @@ abbrev pub plan5 : String
 plan5 = mapX ++ roadsX ++ "hard=1\nfirst=0\naccept=0\nmoves=1\nmove=0,0,0,0\n" ++ softX
 
 abbrev pub plan6 : String
-plan6 = mapX ++ "roads=0\n" ++ hardX ++ softX
+plan6 = roadsOf "roads=0\n"
 
 abbrev pub plan7 : String
 plan7 = mapX ++ roadsX ++ hardX ++ "rules=2\nsoft=2\nweight=3\n" ++ again0 ++ "soft=1\nweight=2\nfirst=0\naccept=1\nmoves=0\n"
@@ -61,6 +67,24 @@ abbrev pub plan8 : String
 plan8 =
     "tour=1\nmarks=1\nplaces=2\nlabel=1\nlabel=0\nstart=0\nroads=2\nroad=0,1\nroad=1,1\n" ++ hardX
     ++ "rules=1\nsoft=2\nweight=1\nfirst=0\naccept=2\nmoves=2\nmove=0,1,0,1\nmove=1,0,0,1\n"
+
+abbrev pub doubledNext : String
+doubledNext = roadsOf "roads=3\nroad=0,1\nroad=0,1\nroad=1,0\n"
+
+abbrev pub doubledLater : String
+doubledLater = roadsOf "roads=5\nroad=0,1\nroad=1,0\nroad=0,2\nroad=2,0\nroad=0,1\n"
+
+abbrev pub doubledStay : String
+doubledStay = roadsOf "roads=2\nroad=0,0\nroad=0,0\n"
+
+abbrev pub doubledFar : String
+doubledFar = roadsOf "roads=2\nroad=0,3\nroad=0,3\n"
+
+abbrev pub doubledFirst : String
+doubledFirst = roadsOf "roads=3\nroad=0,1\nroad=0,1\nroad=01,0\n"
+
+abbrev pub doubledBehind : String
+doubledBehind = roadsOf "roads=3\nroad=0,1\nroad=01,0\nroad=0,1\n"
 
 abbrev pub bridge : String
 bridge =

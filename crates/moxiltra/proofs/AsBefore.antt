@@ -1,29 +1,66 @@
--- A plan file without a zero weight keeps its answers (02, note 5): the planner and the checker tell of a file what they tell of the plan that it
--- reads as, and it reads as it did when weights were at least 1.
---   answered-as-before == what the planner answers is what it answered
---   checked-as-before  == so of the checker
-use mathlib.Core.Path.{sym, subst}
+-- Which plan files keep their answers. The planner and the checker tell of a file what they tell of the plan that it reads as (`answered-by`,
+-- `checked-by`); so a file that reads as before keeps its answers.
+--   02, note 5: weights were at least 1, and a file without a zero weight keeps them
+--     answered-as-before, checked-as-before == what the planner answers, and the checker
+--   02, note 6: a road could stand on two lines, and a file that passed and has every road once keeps them
+--     single-answered, single-checked       == what the planner answers, and the checker
+--     passed-answered, passed-checked       == the same of every file that passes now
+use mathlib.Core.Path.{_≡_, sym, subst}
 use mathlib.Core.List.{List}
 use mathlib.Core.Logic.{_↔_}
 use Prim.Native.Nat.{ℕ}
+use Rattle.reader.specs.Reading.{readPlan}
+use Rattle.reader.specs.declared.Outcome.the-variants as outcome
 use Rattle.reader.specs.declared.Reading.{Reading}
-use Rattle.reader.proofs.Weights.{readBefore, NoZero, read-as-before}
+use Rattle.reader.proofs.Singles.{Single}
+use Rattle.reader.proofs.Weights as weights
+use Rattle.reader.proofs.Doubles as doubles
 use Rattle.answer.specs.declared.Answer.{Answer}
 use Rattle.planner.specs.Promise.{AnswerTo, ToldOf}
 use Rattle.checker.specs.Check.{CheckOf, RuledOf}
 use Rattle.checker.specs.declared.Check.{Check}
 
-module _ (file : List ℕ) (no-zero : NoZero file) where
-  pub answered-as-before : (runin loop runin′ loop′ : List ℕ) (a : Answer)
-      → AnswerTo file runin loop runin′ loop′ a ↔ ToldOf (readBefore file .outcome) (readBefore file .plan) runin loop runin′ loop′ a
-  answered-as-before runin loop runin′ loop′ a = (subst T (read-as-before file no-zero), subst T (sym (read-as-before file no-zero)))
+-- what is answered to the file is what is answered to the reading r
+abbrev pub Answered : List ℕ → Reading → Type 0
+Answered file r = (runin loop runin′ loop′ : List ℕ) (a : Answer)
+    → AnswerTo file runin loop runin′ loop′ a ↔ ToldOf (r .outcome) (r .plan) runin loop runin′ loop′ a
+
+abbrev pub Checked : List ℕ → Reading → Type 0
+Checked file r = (stem cycle : List ℕ) (c : Check) → CheckOf file stem cycle c ↔ RuledOf (r .outcome) (r .plan) stem cycle c
+
+module _ (file : List ℕ) where
+  pub answered-by : (r : Reading) → readPlan file ≡ r → Answered file r
+  answered-by r same runin loop runin′ loop′ a = (subst T same, subst T (sym same))
     where
       T : Reading → Type 0
       T x = ToldOf (x .outcome) (x .plan) runin loop runin′ loop′ a
 
-  pub checked-as-before : (stem cycle : List ℕ) (c : Check)
-      → CheckOf file stem cycle c ↔ RuledOf (readBefore file .outcome) (readBefore file .plan) stem cycle c
-  checked-as-before stem cycle c = (subst T (read-as-before file no-zero), subst T (sym (read-as-before file no-zero)))
+  pub checked-by : (r : Reading) → readPlan file ≡ r → Checked file r
+  checked-by r same stem cycle c = (subst T same, subst T (sym same))
     where
       T : Reading → Type 0
       T x = RuledOf (x .outcome) (x .plan) stem cycle c
+
+  module _ (no-zero : weights.NoZero file) where
+    pub answered-as-before : Answered file (weights.readBefore file)
+    answered-as-before = answered-by _ (weights.read-as-before file no-zero)
+
+    pub checked-as-before : Checked file (weights.readBefore file)
+    checked-as-before = checked-by _ (weights.read-as-before file no-zero)
+
+  abbrev before : Reading
+  before = doubles.readBefore file
+
+  module _ (passed : before .outcome ≡ outcome.Plan) (single : Single (before .plan .from) (before .plan .to) (before .plan .roads)) where
+    pub single-answered : Answered file before
+    single-answered = answered-by _ (doubles.single-as-before file passed single)
+
+    pub single-checked : Checked file before
+    single-checked = checked-by _ (doubles.single-as-before file passed single)
+
+  module _ (passes : readPlan file .outcome ≡ outcome.Plan) where
+    pub passed-answered : Answered file before
+    passed-answered = answered-by _ (doubles.passed-as-before file passes)
+
+    pub passed-checked : Checked file before
+    passed-checked = checked-by _ (doubles.passed-as-before file passes)

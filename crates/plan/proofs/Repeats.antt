@@ -1,13 +1,11 @@
--- "A repeated road or move changes nothing" (01, "The plan file"): not which tours there are, which rules accept them, what they
--- cost, which set is best, nor the size.
---   road p i             == road i of p: from, to
---   Frame p q            == p and q are equal in all that counts beside their roads and moves
---   Alike p q            == they list the same roads and, rule by rule, the same moves, in whatever order and however often
---   EqualRoads p q       == their lists of roads are equal
---   Repetition p q       == q is p with one of its roads, or one of the moves of a rule, once more
+-- A repeated move changes nothing (01, "The plan file"; a repeated road is turned away since 02, note 6): not which tours there are, which rules
+-- accept them, what they cost, which set is best, nor the size.
+--   Frame p q            == p and q are equal in all that counts beside their rules' automata
+--   Alike p q            == and rule by rule they list the same moves, in whatever order and however often
+--   Repetition p q       == q is p with one of the moves of a rule once more
 --   Unchanged p q        == q has the tours of p; the same rules accept them, they keep and cost the same; what is best is; and so is N
 --   alike-unchanged      == that holds of plans that are alike
---   repetition-unchanged == and so of a plan with a road or a move repeated: 01's sentence
+--   repetition-unchanged == and so of a plan with a move repeated
 use mathlib.Core.Path.{_≡_, sym, _∙_, transport, transport⁻¹, subst}
 use mathlib.Core.Bool.{_&&_}
 use mathlib.Core.List.{List}
@@ -17,43 +15,35 @@ use native.Mathlib.Decide.{ℕ-discrete}
 use native.Mathlib.Omega.{arith}
 use lib.ListN.{length, getD}
 use lib.Dec.{eqb}
-use Rattle.base.specs.Below.{productBelow}
+use Rattle.base.specs.Below.{anyBelow, productBelow}
 use Rattle.automata.specs.Acceptance.{lassoAt, HardAccepts, SoftAccepts}
 use Rattle.automata.specs.declared.Automaton.{Automaton}
 use Rattle.automata.proofs.Repeats as automata
-use Rattle.automata.proofs.Repeats.{Relisted, Repeated, SameMoves, RepeatedMove}
+use Rattle.automata.proofs.Repeats.{SameMoves, RepeatedMove}
 use Rattle.plan.specs.WellFormed.{soft}
 use Rattle.plan.specs.Size.{size}
-use Rattle.plan.specs.Tour.{joins, roadCount, IsLasso, word, Hard, Soft}
+use Rattle.plan.specs.Tour.{joins, IsLasso, word, Hard, Soft}
 use Rattle.plan.specs.Cost.{KeptIs, costOf, cost, First, Better, Best}
 use Rattle.plan.specs.declared.Plan.{Plan}
-
-unfoldable pub road : Plan → ℕ → ℕ × ℕ
-road p i = (getD (p .from) i 0, getD (p .to) i 0)
 
 pub record Frame (p q : Plan) : Type 0 where
   pub places : p .places ≡ q .places
   pub labels : p .labels ≡ q .labels
   pub start : p .start ≡ q .start
+  pub roads : p .roads ≡ q .roads
+  pub from : p .from ≡ q .from
+  pub to : p .to ≡ q .to
   pub rules : p .rules ≡ q .rules
   pub weights : p .weights ≡ q .weights
 
 pub record Alike (p q : Plan) : Type 0 where
   pub frame : Frame p q
-  pub roads : Relisted (road p) (roadCount p) (road q) (roadCount q)
   pub hard : SameMoves (p .hard) (q .hard)
   pub softs : (i : ℕ) → SameMoves (soft p i) (soft q i)
 
-pub record EqualRoads (p q : Plan) : Type 0 where
-  pub roads : p .roads ≡ q .roads
-  pub from : p .from ≡ q .from
-  pub to : p .to ≡ q .to
-
 pub data Repetition (p q : Plan) : Type 0 where
-  of-road : Repeated (road p) (roadCount p) (road q) (roadCount q) → p .hard ≡ q .hard → ((j : ℕ) → soft p j ≡ soft q j) → Repetition p q
-  of-hard-move : EqualRoads p q → RepeatedMove (p .hard) (q .hard) → ((j : ℕ) → soft p j ≡ soft q j) → Repetition p q
-  of-soft-move : EqualRoads p q → p .hard ≡ q .hard → (i : ℕ) → RepeatedMove (soft p i) (soft q i)
-      → ((j : ℕ) → (j ≡ i → ⊥) → soft p j ≡ soft q j) → Repetition p q
+  of-hard : RepeatedMove (p .hard) (q .hard) → ((j : ℕ) → soft p j ≡ soft q j) → Repetition p q
+  of-soft : p .hard ≡ q .hard → (i : ℕ) → RepeatedMove (soft p i) (soft q i) → ((j : ℕ) → (j ≡ i → ⊥) → soft p j ≡ soft q j) → Repetition p q
 
 pub record Unchanged (p q : Plan) : Type 0 where
   pub joined : (u v : ℕ) → joins p u v ≡ joins q u v
@@ -67,8 +57,10 @@ pub record Unchanged (p q : Plan) : Type 0 where
 
 module _ (p q : Plan) (a : Alike p q) where
   same-joins : (u v : ℕ) → joins p u v ≡ joins q u v
-  unfolding joins road
-  same-joins u v = automata.any-relisted (λ r. eqb (r .0) u && eqb (r .1) v) (road p) (roadCount p) (road q) (roadCount q) (a .roads)
+  unfolding joins
+  same-joins u v =
+      let f = a .frame in
+      λ i. anyBelow (min (f .roads i) 1024) (λ k. eqb (getD (f .from i) k 0) u && eqb (getD (f .to i) k 0) v)
 
   same-costs : (k : ℕ) → cost p k ≡ cost q k
   same-costs k = λ i. costOf (a .frame .weights i) (a .frame .rules i) k
@@ -103,8 +95,16 @@ module _ (p q : Plan) (a : Alike p q) where
 
 alike-sym : {p q : Plan} → Alike p q → Alike q p
 alike-sym a = record {
-  frame = let f = a .frame in record { places = sym (f .places); labels = sym (f .labels); start = sym (f .start); rules = sym (f .rules); weights = sym (f .weights) };
-  roads = automata.relisted-sym (a .roads);
+  frame = let f = a .frame in record {
+    places = sym (f .places);
+    labels = sym (f .labels);
+    start = sym (f .start);
+    roads = sym (f .roads);
+    from = sym (f .from);
+    to = sym (f .to);
+    rules = sym (f .rules);
+    weights = sym (f .weights);
+  };
   hard = automata.same-sym (a .hard);
   softs = λ i. automata.same-sym (a .softs i);
 }
@@ -140,20 +140,12 @@ alike-unchanged {p} {q} a = record {
 equal-moves : {a b : Automaton} → a ≡ b → SameMoves a b
 equal-moves {a} e = subst (SameMoves a) e (automata.same-refl a)
 
-equal-roads : {p q : Plan} → EqualRoads p q → Relisted (road p) (roadCount p) (road q) (roadCount q)
-unfolding road
-equal-roads {p} e =
-    transport
-    (λ i. Relisted (road p) (roadCount p) (λ j. (getD (e .from i) j 0, getD (e .to i) j 0)) (min (e .roads i) 1024))
-    (automata.relisted-refl (road p) (roadCount p))
-
 pub repetition-unchanged : {p q : Plan} → Frame p q → Repetition p q → Unchanged p q
 repetition-unchanged {p} {q} f r = alike-unchanged (alike r)
   where
     alike : Repetition p q → Alike p q
-    alike (of-road again hard softs) = record { frame = f; roads = automata.repeated-relisted again; hard = equal-moves hard; softs = λ j. equal-moves (softs j) }
-    alike (of-hard-move roads again softs) = record { frame = f; roads = equal-roads roads; hard = automata.repeated-same again; softs = λ j. equal-moves (softs j) }
-    alike (of-soft-move roads hard i again others) = record { frame = f; roads = equal-roads roads; hard = equal-moves hard; softs = λ j. at j (ℕ-discrete j i) }
+    alike (of-hard again softs) = record { frame = f; hard = automata.repeated-same again; softs = λ j. equal-moves (softs j) }
+    alike (of-soft hard i again others) = record { frame = f; hard = equal-moves hard; softs = λ j. at j (ℕ-discrete j i) }
       where
         at : (j : ℕ) → Dec (j ≡ i) → SameMoves (soft p j) (soft q j)
         at j (yes e) = subst (λ n. SameMoves (soft p n) (soft q n)) (sym e) (automata.repeated-same again)

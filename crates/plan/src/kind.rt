@@ -23,6 +23,9 @@ pub fn kind_of(number: u32) -> Kind
     if number == 3 {
         return Kind::Lined;
     }
+    if number == 10 {
+        return Kind::Lined;
+    }
     if number < 7 {
         return Kind::Plain;
     }

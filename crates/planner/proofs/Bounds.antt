@@ -22,7 +22,7 @@ use Rattle.reader.specs.Outcome.{number, lineOf}
 use Rattle.reader.specs.Reading.{readPlan}
 use Rattle.reader.specs.declared.Outcome.{Outcome}
 use Rattle.reader.specs.declared.Outcome.the-variants as outcome
-use Rattle.reader.proofs.Answers.{read-low}
+use Rattle.reader.proofs.Answers.{Early, read-early}
 use Rattle.reader.proofs.WellRead.{read-well}
 use Rattle.answer.specs.Block.{Narrow}
 use Rattle.answer.specs.declared.Answer.{Answer}
@@ -34,7 +34,7 @@ counted-le no-more = omega arith
 counted-le (one e k) = omega (arith, counted-le k)
 counted-le (skip e k) = omega (arith, counted-le k)
 
-refusal-narrow : (x : Refusal) (a : Answer) → a ≡ refusalAnswer x → refused.number x ≤ 7 → refused.lineOf x ≤ 60001 → Narrow a
+refusal-narrow : (x : Refusal) (a : Answer) → a ≡ refusalAnswer x → refused.number x ≤ 10 → refused.lineOf x ≤ 60001 → Narrow a
 refusal-narrow x a e h l = rw e (record { number = omega arith; line = omega arith; cost = omega arith; kept = omega arith; count = omega arith; stem = omega arith; cycle = omega arith })
 
 module _ (p : Plan) {runin loop runin′ loop′ : List ℕ} {a : Answer} where
@@ -59,11 +59,11 @@ module _ (p : Plan) {runin loop runin′ loop′ : List ℕ} {a : Answer} where
 
 -- a plan file that was turned away, and one that was read, in the verdict's terms
 module _ (runin loop runin′ loop′ : List ℕ) (a : Answer) where
-  verdict-narrow : (o : Outcome) (p : Plan) → number o ≤ 3 → lineOf o ≤ 60001 → (o ≡ outcome.Plan → WellFormed p)
+  verdict-narrow : (o : Outcome) (p : Plan) → Early (number o) → lineOf o ≤ 60001 → (o ≡ outcome.Plan → WellFormed p)
       → ToldOf o p runin loop runin′ loop′ a → Narrow a
   unfolding verdict Told
-  verdict-narrow (outcome.Refused x) p low early ok t = refusal-narrow x a (t .answer) (omega arith) early
-  verdict-narrow outcome.Plan p low early ok t = by (tooLarge p) (roomy p (length runin) (length loop)) refl t
+  verdict-narrow (outcome.Refused x) p among line ok t = refusal-narrow x a (t .answer) (among .low) line
+  verdict-narrow outcome.Plan p among line ok t = by (tooLarge p) (roomy p (length runin) (length loop)) refl t
     where
       by : (large room : Bool) → tooLarge p ≡ large
           → Told (cond large (refuse refusal.ProductTooLarge) (cond room (go p) (refuse refusal.BufferTooShort))) runin loop runin′ loop′ a → Narrow a
@@ -71,11 +71,11 @@ module _ (runin loop runin′ loop′ : List ℕ) (a : Answer) where
       by false true e t = planned-narrow p (ok refl) (ltb-false 2048 (size p) e) t
       by false false e t = refusal-narrow refusal.BufferTooShort a (t .answer) (omega arith) (omega arith)
 
-  verdict-number : (o : Outcome) (p : Plan) → number o ≤ 3 → (o ≡ outcome.Plan → size p ≤ 2048 → roomy p (length runin) (length loop) ≡ true)
+  verdict-number : (o : Outcome) (p : Plan) → Early (number o) → (o ≡ outcome.Plan → size p ≤ 2048 → roomy p (length runin) (length loop) ≡ true)
       → ToldOf o p runin loop runin′ loop′ a → a .number ≢ 5
   unfolding verdict Told
-  verdict-number (outcome.Refused x) p low room t f = omega (arith, ap (λ y. y .number) (t .answer))
-  verdict-number outcome.Plan p low room t f = by (tooLarge p) refl t
+  verdict-number (outcome.Refused x) p among room t f = among .none 5 (omega arith) (omega arith) (omega (arith, ap (λ y. y .number) (t .answer)))
+  verdict-number outcome.Plan p among room t f = by (tooLarge p) refl t
     where
       by : (large : Bool) → tooLarge p ≡ large → Told (cond large (refuse refusal.ProductTooLarge)
           (cond (roomy p (length runin) (length loop)) (go p) (refuse refusal.BufferTooShort))) runin loop runin′ loop′ a → ⊥
@@ -85,9 +85,9 @@ module _ (runin loop runin′ loop′ : List ℕ) (a : Answer) where
 module _ (plan runin loop runin′ loop′ : List ℕ) (a : Answer) (t : AnswerTo plan runin loop runin′ loop′ a) where
   pub told-narrow : Narrow a
   told-narrow =
-      verdict-narrow runin loop runin′ loop′ a (readPlan plan .outcome) (readPlan plan .plan) (read-low plan .0) (read-low plan .1) (read-well plan) t
+      verdict-narrow runin loop runin′ loop′ a (readPlan plan .outcome) (readPlan plan .plan) (read-early plan .0) (read-early plan .1) (read-well plan) t
 
   pub never-short : length runin ≡ 2048 → length loop ≡ 20480 → a .number ≢ 5
   never-short r l =
-      verdict-number runin loop runin′ loop′ a (readPlan plan .outcome) (readPlan plan .plan) (read-low plan .0)
+      verdict-number runin loop runin′ loop′ a (readPlan plan .outcome) (readPlan plan .plan) (read-early plan .0)
       (λ e small. rw (r, l) (roomy-enough (readPlan plan .plan) (read-well plan e) small)) t

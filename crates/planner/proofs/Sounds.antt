@@ -12,7 +12,7 @@ use borrow.Author.Tests.{lt-ltb}
 use Rattle.text.specs.List.{under}
 use Rattle.text.specs.Fault as fault
 use Rattle.text.specs.declared.fault.Fault.{Fault}
-use Rattle.text.specs.declared.fault.Fault.the-variants.{Form, Range}
+use Rattle.text.specs.declared.fault.Fault.the-variants.{Form, Range, Doubled}
 use Rattle.text.proofs.Lists.{under-more}
 use Rattle.plan.specs.Answers.{kindOf, consistent}
 use Rattle.plan.specs.WellFormed.{WellFormed}
@@ -44,6 +44,7 @@ fault-agrees : (f : Fault) → 1 ≤ fault.lineOf f → Agrees (refusal.Line f)
 unfolding kindOf
 fault-agrees (Form n) h = rw (lt-ltb 0 n h)
 fault-agrees (Range n) h = rw (lt-ltb 0 n h)
+fault-agrees (Doubled n) h = rw (lt-ltb 0 n h)
 
 module _ (runin loop runin′ loop′ : List ℕ) (a : Answer) where
   refusal-sound : (x : Refusal) → a ≡ refusalAnswer x → refused.lineOf x ≤ 60001 → Agrees x → SoundIn runin′ loop′ a

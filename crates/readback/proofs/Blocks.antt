@@ -83,12 +83,12 @@ block-says q h =
       number-little 8 (recordOf q .cycle) (h .cycle),
     )
 
-agreed-low : (n line cost kept stem cycle : ℕ) → consistent (kindOf n) line cost kept stem cycle ≡ true → n < 7
-agreed-low n line cost kept stem cycle e = by (ltb n 7) refl
+agreed-low : (n line cost kept stem cycle : ℕ) → consistent (kindOf n) line cost kept stem cycle ≡ true → n < 11
+agreed-low n line cost kept stem cycle e = by (ltb n 11) refl
   where
-    by : (t : Bool) → ltb n 7 ≡ t → n < 7
-    by true h = ltb-true n 7 h
-    by false h = let z : false ≡ true = rw (never n (ltb-false n 7 h)) at e in let w : _≡_ {A = ℕ} 0 1 = cc in absurd (omega arith)
+    by : (t : Bool) → ltb n 11 ≡ t → n < 11
+    by true h = ltb-true n 11 h
+    by false h = let z : false ≡ true = rw (never n (ltb-false n 11 h)) at e in let w : _≡_ {A = ℕ} 0 1 = cc in absurd (omega arith)
 
 module _ (s : List ℕ) (r l : ℕ) (few : r < 18446744073709551616) (short : l < 18446744073709551616) where
   pub reply-narrow : Narrow (readAnswer s r l)

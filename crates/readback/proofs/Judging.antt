@@ -42,11 +42,11 @@ use Rattle.readback.proofs.PrintsBack.{Listed, read-stands}
 
 known-held : (s : List ℕ) (at next v x : ℕ) → x ≡ min v 4000000000
     → judged s at next (known x) (pair x 0) ≡ judged s at next (known v) (pair v 0)
-known-held s at next v x e = by (ltb v 7) refl
+known-held s at next v x e = by (ltb v 11) refl
   where
-    by : (t : Bool) → ltb v 7 ≡ t → judged s at next (known x) (pair x 0) ≡ judged s at next (known v) (pair v 0)
-    by true h = let l = ltb-true v 7 h in let same : x ≡ v = omega arith in rw same
-    by false h = let l = ltb-false v 7 h in rw (never x (omega arith), never v l)
+    by : (t : Bool) → ltb v 11 ≡ t → judged s at next (known x) (pair x 0) ≡ judged s at next (known v) (pair v 0)
+    by true h = let l = ltb-true v 11 h in let same : x ≡ v = omega arith in rw same
+    by false h = let l = ltb-false v 11 h in rw (never x (omega arith), never v l)
 
 module _ (s : List ℕ) (l : Line) where
   pub answer-fault : (f : Fault) → l ≡ line.Fault f → l ≡ answerLine s l

@@ -25,7 +25,7 @@ use lib.Dec.{leb}
 use lib.ListN.{length, drop-of-length-le}
 use Rattle.base.proofs.Tests.{and-left, and-right}
 use Rattle.text.specs.Scan.{newlines}
-use Rattle.text.specs.Line.{firstOf, lineOfOne, top}
+use Rattle.text.specs.Line.{firstOf, lineOfOne, top, good}
 use Rattle.text.specs.List.{listLine}
 use Rattle.text.specs.Runs.{Stands}
 use Rattle.text.specs.Decimal.{decimal}
@@ -33,7 +33,7 @@ use Rattle.text.specs.KeyLine.{keyLine}
 use Rattle.text.specs.declared.line.Line.{Line}
 use Rattle.text.specs.declared.line.Line.the-variants as line
 use Rattle.text.specs.declared.list.ListLine.{ListLine}
-use Rattle.text.proofs.Lines.{good, one-is}
+use Rattle.text.proofs.Lines.{one-is}
 use Rattle.text.proofs.Lists.{under-more}
 use Rattle.text.proofs.StoodLines.{stood-join, nextAt, Follows, follows-good, number-follows, one-follows, list-follows, finish-good}
 use Rattle.text.proofs.StoodLines.{newlines-decimal, newlines-joined, newlines-line, faultLine, begun-top, begun-next, begun-finish}

@@ -3,10 +3,12 @@
 --   too-long, faulty, faultless == the answer
 --   Turned x, read-turned       == why a plan file is turned away: it is too long, or a line of it has a fault, no later one than may follow
 --                                  60,000 line ends
---   read-low, refused-early     == so no number is above 3, and no line above 60,001
+--   Early n, read-early         == so the number is at most 3, or 10, and none of 4 to 9
+--   refused-early               == and no line is above 60,001
 use mathlib.Core.Path.{_≡_, refl, sym, ap, _∙_}
 use mathlib.Core.Bool.{Bool, true, false, cond}
 use mathlib.Core.List.{List}
+use mathlib.Core.Logic.{_≢_}
 use Prim.Native.Nat.{ℕ, _^_, _≤_, _<_}
 use native.Mathlib.Omega.{arith}
 use lib.ListN.{length}
@@ -14,7 +16,7 @@ use lib.Dec.{ltb}
 use borrow.Author.Tests.{lt-ltb, le-ltb, ltb-false}
 use Rattle.text.specs.Fault as fault
 use Rattle.text.specs.declared.fault.Fault.{Fault}
-use Rattle.text.specs.declared.fault.Fault.the-variants.{Form, Range}
+use Rattle.text.specs.declared.fault.Fault.the-variants.{Form, Range, Doubled}
 use Rattle.plan.specs.Refusal as refusal
 use Rattle.plan.specs.declared.Plan.{Plan}
 use Rattle.plan.specs.declared.Refusal.{Refusal}
@@ -79,13 +81,21 @@ pub data Turned (x : Refusal) : Type 0 where
   long : x ≡ cause.PlanTooLong → Turned x
   lined : (f : Fault) → x ≡ cause.Line f → 1 ≤ fault.lineOf f → fault.lineOf f ≤ 60001 → Turned x
 
-fault-low : (f : Fault) → fault.number f ≤ 3
-fault-low (Form n) = omega arith
-fault-low (Range n) = omega arith
+pub record Early (n : ℕ) : Type 0 where
+  pub low : n ≤ 10
+  pub none : (k : ℕ) → 4 ≤ k → k ≤ 9 → n ≢ k
 
-turned-low : {x : Refusal} → Turned x → (refusal.number x ≤ 3) × (refusal.lineOf x ≤ 60001)
-turned-low (long e) = rw e (omega arith, omega arith)
-turned-low (lined f e low high) = rw e (fault-low f, high)
+early : (n : ℕ) → n ≤ 3 → Early n
+early n h = record { low = omega arith; none = λ k a b e. omega arith }
+
+fault-early : (f : Fault) → Early (fault.number f)
+fault-early (Form n) = early 2 (omega arith)
+fault-early (Range n) = early 3 (omega arith)
+fault-early (Doubled n) = record { low = omega arith; none = λ k a b e. omega arith }
+
+turned-early : {x : Refusal} → Turned x → Early (refusal.number x) × (refusal.lineOf x ≤ 60001)
+turned-early (long e) = rw e (early 1 (omega arith), omega arith)
+turned-early (lined f e low high) = rw e (fault-early f, high)
 
 module _ (s : List ℕ) where
   answered : (l : Line) (p : Plan) → length s ≤ 60000 → Placed s l → (x : Refusal) → answer l p .outcome ≡ outcome.Refused x → Turned x
@@ -102,12 +112,12 @@ module _ (s : List ℕ) where
       by true e k = long (cc)
       by false e k = answered (draftOf s .line) (draftOf s .plan) (ltb-false 60000 (length s) e) (draft-placed s) x k
 
-  pub read-low : (number (readPlan s .outcome) ≤ 3) × (lineOf (readPlan s .outcome) ≤ 60001)
-  read-low = by (readPlan s .outcome) refl
+  pub read-early : Early (number (readPlan s .outcome)) × (lineOf (readPlan s .outcome) ≤ 60001)
+  read-early = by (readPlan s .outcome) refl
     where
-      by : (o : Outcome) → readPlan s .outcome ≡ o → (number o ≤ 3) × (lineOf o ≤ 60001)
-      by outcome.Plan e = (omega arith, omega arith)
-      by (outcome.Refused x) e = turned-low (read-turned x e)
+      by : (o : Outcome) → readPlan s .outcome ≡ o → Early (number o) × (lineOf o ≤ 60001)
+      by outcome.Plan e = (early 0 (omega arith), omega arith)
+      by (outcome.Refused x) e = turned-early (read-turned x e)
 
   pub refused-early : (r : Reading) → r ≡ readPlan s → (x : Refusal) → r .outcome ≡ outcome.Refused x → refusal.lineOf x ≤ 60001
-  refused-early r same x e = turned-low (read-turned x (ap (λ y. y .outcome) (sym same) ∙ e)) .1
+  refused-early r same x e = turned-early (read-turned x (ap (λ y. y .outcome) (sym same) ∙ e)) .1

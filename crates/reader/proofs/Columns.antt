@@ -13,7 +13,7 @@ use Rattle.reader.specs.declared.block.LabelBlock.{LabelBlock}
 use Rattle.reader.specs.declared.block.RoadBlock.{RoadBlock}
 use Rattle.reader.specs.declared.block.MoveBlock.{MoveBlock}
 use Rattle.text.proofs.Lines.{one-is}
-use Rattle.reader.proofs.Lines.{road-is, move-is}
+use Rattle.reader.proofs.Lines.{road-low, move-is}
 
 -- what each line keeps of the block and of the count of lines read, n lines keep
 module _ {B : Type 0} (f : Filling B → Filling B) (Q : ℕ → B → Type 0) (next : (x : Filling B) → f x .next ≡ x .next + 1)
@@ -82,7 +82,7 @@ module _ (s : List ℕ) where
   unfolding roadBlock
   roads-filled l n bound =
       filled (roadStep s bound) (RoadColumns bound) (λ x. refl)
-      (λ x q. let t = road-is s (x .block .line) _ bound _ refl in record { from = column-set _ (q .from) (t .first-low); to = column-set _ (q .to) (t .second-low) })
+      (λ x q. let t = road-low s (x .block .line) _ bound _ _ refl in record { from = column-set _ (q .from) (t .0); to = column-set _ (q .to) (t .1) })
       n _ (record { from = column-zeros (bound - 1) 1024; to = column-zeros (bound - 1) 1024 })
 
   pub record MoveColumns (q labels i : ℕ) (b : MoveBlock) : Type 0 where

@@ -11,7 +11,7 @@ use lib.Seq.{getD-set-same, getD-set-other}
 use Rattle.automata.specs.WellFormed as automaton
 use Rattle.automata.specs.WellFormed.{ZeroFrom, noAutomaton}
 use Rattle.automata.specs.declared.Automaton.{Automaton}
-use Rattle.text.specs.Line.{lineOfOne, firstOf, finish}
+use Rattle.text.specs.Line.{lineOfOne, firstOf, finish, good}
 use Rattle.reader.specs.Line.{roadLine, moveLine}
 use Rattle.reader.specs.Keys.{firstKey, acceptKey, movesKey, hardKey, softKey, weightKey}
 use Rattle.reader.specs.Blocks.{Filling, moveBlock, automatonBlock, hardBlock, weightLine, softBlock, softStep, softBlocks}
@@ -19,7 +19,7 @@ use Rattle.text.specs.declared.line.Numbers.{Numbers}
 use Rattle.text.specs.declared.line.Line.{Line}
 use Rattle.text.specs.declared.line.Line.the-variants as line
 use Rattle.reader.specs.declared.block.SoftBlocks.{SoftBlocks}
-use Rattle.text.proofs.Lines.{within-both, good, Led, First, one-led}
+use Rattle.text.proofs.Lines.{within-both, Led, First, one-led}
 use Rattle.reader.proofs.Lines.{road-led, move-led}
 use Rattle.reader.proofs.Sticky.{Sticky, moves-keep, soft-keeps}
 use Rattle.reader.proofs.Columns.{filled, all-same, column-below, set-rest, zeros-rest, moves-filled}
@@ -34,7 +34,7 @@ led-faulty s Q l (line.Fault f) g p = refl
 pub faulty : (s : List ℕ) → Sticky s Faulty
 faulty s = record {
   one = λ l key low bound. led-faulty s _ l (lineOfOne s l key low bound) (one-led s l key low bound);
-  road = λ l key bound. led-faulty s _ l (roadLine s l key bound) (road-led s l key bound);
+  road = λ l key bound again. led-faulty s _ l (roadLine s l key bound again) (road-led s l key bound again);
   move = λ l key q labels. led-faulty s _ l (moveLine s l key q labels) (move-led s l key q labels);
 }
 

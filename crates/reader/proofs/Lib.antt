@@ -1,11 +1,14 @@
 pub mod Lines
 pub mod Filling
 pub mod Steps
+pub mod Noting
 pub mod Sequences
 pub mod Sticky
 pub mod Answers
 pub mod Columns
 pub mod Faultless
 pub mod WellRead
+pub mod Singles
 pub mod Fours
 pub mod Weights
+pub mod Doubles

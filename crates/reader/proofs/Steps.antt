@@ -9,7 +9,7 @@ use Rattle.text.specs.Line.{lineOfOne, numbersOf, firstOf}
 use Rattle.reader.specs.Line.{roadLine, moveLine}
 use Rattle.automata.specs.declared.Automaton.{Automaton}
 use Rattle.automata.specs.WellFormed.{noAutomaton}
-use Rattle.reader.specs.Blocks.{labelStep, labelBlock, roadStep, roadBlock, moveStep, moveBlock, softBlock, softStep, softBlocks}
+use Rattle.reader.specs.Blocks.{labelStep, labelBlock, earlier, roadStep, roadBlock, moveStep, moveBlock, softBlock, softStep, softBlocks}
 use Rattle.text.specs.declared.line.Numbers.{Numbers}
 use Rattle.text.specs.declared.line.Line.{Line}
 use Rattle.reader.specs.declared.block.LabelBlock.{LabelBlock}
@@ -44,7 +44,8 @@ module _ (s : List ℕ) (bound : ℕ) where
   unfolding roadBlock
   roads-start l n = rest-start n (roadStep s bound) _
 
-  pub road-step : (i : ℕ) (l r : Line) (a b : List ℕ) (xs : Numbers) → r ≡ roadLine s l roadKey bound → xs ≡ numbersOf r
+  pub road-step : (i : ℕ) (l r : Line) (a b : List ℕ) (xs : Numbers)
+      → r ≡ roadLine s l roadKey bound (earlier (roadsIn l a b) i) → xs ≡ numbersOf r
       → roadStep s bound (record { next = i; block = roadsIn l a b }) ≡ record { next = i + 1; block = roadsIn r (set a i (xs .first)) (set b i (xs .second)) }
   road-step i l r a b xs p q = rw (q, p)
 

@@ -34,7 +34,7 @@ repeat-keeps P f h (suc n) x p = repeat-keeps P f h n (f x) (h x p)
 -- P is kept by a line of every kind
 pub record Sticky (s : List ℕ) (P : Line → Type 0) : Type 0 where
   pub one : (l : Line) (key : List ℕ) (low bound : ℕ) → P l → P (lineOfOne s l key low bound)
-  pub road : (l : Line) (key : List ℕ) (bound : ℕ) → P l → P (roadLine s l key bound)
+  pub road : (l : Line) (key : List ℕ) (bound : ℕ) (again : Numbers → Bool) → P l → P (roadLine s l key bound again)
   pub move : (l : Line) (key : List ℕ) (q labels : ℕ) → P l → P (moveLine s l key q labels)
 
 module _ (s : List ℕ) (P : Line → Type 0) (k : Sticky s P) where
@@ -44,7 +44,7 @@ module _ (s : List ℕ) (P : Line → Type 0) (k : Sticky s P) where
 
   pub roads-keep : (l : Line) (n bound : ℕ) → P l → P (roadBlock s l n bound .line)
   unfolding roadBlock
-  roads-keep l n bound = repeat-keeps (λ (x : Filling RoadBlock). P (x .block .line)) (roadStep s bound) (λ x. k .road (x .block .line) _ bound) n _
+  roads-keep l n bound = repeat-keeps (λ (x : Filling RoadBlock). P (x .block .line)) (roadStep s bound) (λ x. k .road (x .block .line) _ bound _) n _
 
   pub moves-keep : (l : Line) (n q labels : ℕ) → P l → P (moveBlock s l n q labels .line)
   unfolding moveBlock
@@ -86,7 +86,7 @@ module _ (s : List ℕ) where
   placed : Sticky s (Placed s)
   placed = record {
     one = λ l key low bound. led-placed _ l (lineOfOne s l key low bound) (one-led s l key low bound);
-    road = λ l key bound. led-placed _ l (roadLine s l key bound) (road-led s l key bound);
+    road = λ l key bound again. led-placed _ l (roadLine s l key bound again) (road-led s l key bound again);
     move = λ l key q labels. led-placed _ l (moveLine s l key q labels) (move-led s l key q labels);
   }
 

@@ -35,7 +35,7 @@ use Rattle.reader.specs.Keys.{softKey, weightKey, rulesKey}
 use Rattle.reader.specs.Line.{roadLine, moveLine}
 use Rattle.reader.specs.Blocks.{repeat, Filling, automatonBlock, hardBlock, weightLine, softBlock, softStep, softBlocks}
 use Rattle.reader.specs.Map.{mapOf}
-use Rattle.reader.specs.Reading.{draftOf, refuse, answer, readPlan}
+use Rattle.reader.specs.Reading.{draftOf, refuse, answer, answerTo, readPlan}
 use Rattle.reader.specs.declared.block.SoftBlock.{SoftBlock}
 use Rattle.reader.specs.declared.block.SoftBlocks.{SoftBlocks}
 use Rattle.reader.specs.declared.Draft.{Draft}
@@ -96,7 +96,7 @@ draftBefore s =
     }
 
 unfoldable pub readBefore : List ℕ → Reading
-readBefore s = cond (ltb 60000 (length s)) (refuse refusal.PlanTooLong) (answer (draftBefore s .line) (draftBefore s .plan))
+readBefore s = answerTo s (draftBefore s)
 
 abbrev pub weightAt : List ℕ → ℕ → Number
 weightAt s at = nextNumber s (keyAt s at weightKey) 10
@@ -135,7 +135,7 @@ module _ (s : List ℕ) where
   unfolding lineOfOne roadLine moveLine
   stays = record {
     one = λ l key low bound z. behind-zero z (λ f e. rw e);
-    road = λ l key bound z. behind-zero z (λ f e. rw e);
+    road = λ l key bound again z. behind-zero z (λ f e. rw e);
     move = λ l key q labels z. behind-zero z (λ f e. rw e);
   }
 

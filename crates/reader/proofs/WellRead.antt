@@ -12,7 +12,7 @@ use Rattle.plan.specs.WellFormed.{WellFormed}
 use Rattle.plan.specs.declared.Plan.{Plan}
 use Rattle.plan.specs.declared.Refusal.the-variants.{PlanTooLong}
 use Rattle.reader.specs.Keys.{tourKey, marksKey, placesKey, startKey, roadsKey, rulesKey}
-use Rattle.text.specs.Line.{lineOfOne, firstOf, top}
+use Rattle.text.specs.Line.{lineOfOne, firstOf, top, good}
 use Rattle.reader.specs.Blocks.{labelBlock, roadBlock, hardBlock, softBlocks}
 use Rattle.reader.specs.Map.{mapOf}
 use Rattle.reader.specs.Reading.{draftOf, refuse, answer, readPlan}
@@ -25,7 +25,6 @@ use Rattle.reader.specs.declared.Reading.{Reading}
 use Rattle.reader.specs.declared.Outcome.the-variants as outcome
 use Rattle.reader.proofs.Sticky.{labels-keep, roads-keep, hard-keeps, softs-keep}
 use Rattle.reader.proofs.Columns.{column-below, labels-filled, roads-filled}
-use Rattle.text.proofs.Lines.{good}
 use Rattle.reader.proofs.Faultless.{Faulty, faulty, was-good, finish-good, OneGood, one-good, hard-read, softs-read}
 
 -- the lines of the map
@@ -33,7 +32,7 @@ module _ (s : List ℕ) (e : good (mapOf s .line) ≡ true) where
   abbrev marks-line : Line
   marks-line = lineOfOne s (lineOfOne s top tourKey 1 2) marksKey 0 9
 
-  abbrev places-line : Line
+  abbrev pub places-line : Line
   places-line = lineOfOne s marks-line placesKey 1 129
 
   abbrev labels-block : LabelBlock
@@ -42,10 +41,10 @@ module _ (s : List ℕ) (e : good (mapOf s .line) ≡ true) where
   abbrev start-line : Line
   start-line = lineOfOne s (labels-block .line) startKey 0 (firstOf places-line)
 
-  abbrev roads-line : Line
+  abbrev pub roads-line : Line
   roads-line = lineOfOne s start-line roadsKey 0 1025
 
-  roads-good : OneGood 0 1025 start-line roads-line
+  pub roads-good : OneGood 0 1025 start-line roads-line
   unfolding mapOf
   roads-good =
       one-good s start-line roadsKey 0 1025
@@ -89,7 +88,7 @@ module _ (s : List ℕ) (e : good (draftOf s .line) ≡ true) where
       one-good s (hard-block .line) rulesKey 0 9
       (was-good rules-line (soft-part .line) (softs-keep s Faulty (faulty s) rules-line (firstOf rules-line) bound) softs-good)
 
-  map-good : good (mapOf s .line) ≡ true
+  pub map-good : good (mapOf s .line) ≡ true
   map-good = was-good (mapOf s .line) (hard-block .line) (hard-keeps s Faulty (faulty s) (mapOf s .line) bound) (rules-good .was)
 
   draft-well : WellFormed (draftOf s .plan)
@@ -123,17 +122,17 @@ module _ (s : List ℕ) (e : good (draftOf s .line) ≡ true) where
       }
 
 -- a plan is the answer only where nothing turns it away
-record Passed (l : Line) (p given : Plan) : Type 0 where
+pub record Passed (l : Line) (p given : Plan) : Type 0 where
   pub no-fault : good l ≡ true
   pub same : given ≡ p
 
-answer-plan : (l : Line) (p : Plan) → answer l p .outcome ≡ outcome.Plan → Passed l p (answer l p .plan)
+pub answer-plan : (l : Line) (p : Plan) → answer l p .outcome ≡ outcome.Plan → Passed l p (answer l p .plan)
 unfolding answer
 answer-plan (line.Fault f) p e = let z : _≡_ {A = ℕ} 0 1 = cc in absurd (omega arith)
 answer-plan (line.Numbers xs c) p e = record { no-fault = refl; same = refl }
 
 module _ (s : List ℕ) (e : readPlan s .outcome ≡ outcome.Plan) where
-  passed : Passed (draftOf s .line) (draftOf s .plan) (readPlan s .plan)
+  pub passed : Passed (draftOf s .line) (draftOf s .plan) (readPlan s .plan)
   unfolding readPlan
   passed = by-test (ltb 60000 (length s)) e
     where

@@ -3,20 +3,26 @@
 --   Filling B                       == a block B in reading, with the index that the next line's numbers go to
 --   labelStep, roadStep, moveStep, softStep == one line, or one soft rule, more
 --   labelBlock s prior n bound      == n lines `label=L`, each L below bound
---   roadBlock s prior n bound       == n lines `road=A,B`, both below bound
+--   onLine b xs i                   == the numbers xs stand on road line i of the block b
+--   earlier b n xs                  == they stand on one of its first n road lines (02, note 6)
+--   roadBlock s prior n bound       == n lines `road=A,B`, both below bound, of which none has the numbers of an earlier one
 --   moveBlock s prior n q labels    == n move lines of an automaton of q states; need, bar and any are below labels
 --   automatonBlock s prior q labels == first, accept, moves=T and T move lines of an automaton of q states
 --   hardBlock s prior labels        == hard=Q and its automaton
 --   weightLine s prior              == weight=W, 0 to 4,000,000 (02, note 5: a rule of weight 0 only watches)
 --   softBlock s prior labels        == soft=Q, weight=W and its automaton
 --   softBlocks s prior n labels     == n soft rules
+use mathlib.Core.Bool.{Bool, _&&_}
 use mathlib.Core.List.{List}
 use Prim.Native.Nat.{ℕ, zero, suc, _+_, _^_}
-use lib.ListN.{set, replicate}
+use lib.ListN.{set, getD, replicate}
+use lib.Dec.{eqb}
+use Rattle.base.specs.Below.{anyBelow}
 use Rattle.automata.specs.WellFormed.{noAutomaton}
 use Rattle.reader.specs.Keys.{labelKey, roadKey, moveKey, firstKey, acceptKey, movesKey, hardKey, softKey, weightKey}
 use Rattle.text.specs.Line.{lineOfOne, numbersOf, firstOf}
 use Rattle.reader.specs.Line.{roadLine, moveLine}
+use Rattle.text.specs.declared.line.Numbers.{Numbers}
 use Rattle.text.specs.declared.line.Line.{Line}
 use Rattle.reader.specs.declared.block.LabelBlock.{LabelBlock}
 use Rattle.reader.specs.declared.block.RoadBlock.{RoadBlock}
@@ -42,9 +48,15 @@ unfoldable pub labelBlock : List ℕ → Line → ℕ → ℕ → LabelBlock
 labelBlock s prior n bound =
     repeat n (labelStep s bound) (record { next = 0; block = record { line = prior; labels = replicate 128 0 } }) .block
 
+abbrev pub onLine : RoadBlock → Numbers → ℕ → Bool
+onLine b xs i = eqb (getD (b .from) i 0) (xs .first) && eqb (getD (b .to) i 0) (xs .second)
+
+abbrev pub earlier : RoadBlock → ℕ → Numbers → Bool
+earlier b n xs = anyBelow n (onLine b xs)
+
 abbrev pub roadStep : List ℕ → ℕ → Filling RoadBlock → Filling RoadBlock
 roadStep s bound x =
-    let l = roadLine s (x .block .line) roadKey bound in
+    let l = roadLine s (x .block .line) roadKey bound (earlier (x .block) (x .next)) in
     let xs = numbersOf l in
     record {
       next = x .next + 1;

@@ -1,3 +1,4 @@
+pub mod Pairs
 pub mod Line
 pub mod Keys
 pub mod Blocks

@@ -1,8 +1,11 @@
 -- The whole plan file (01, "The plan file" and "Why a plan is turned away").
---   draftOf s  == what all lines of s come to: the last of them or the first fault, and the plan that they make
---   refuse r   == the answer that turns a plan away: the cause, and an empty plan
---   answer l p == the answer to lines that end with l and make the plan p
---   readPlan s == the answer to the plan file s: its length is judged before its lines; the plan's size is left open
+--   draftFrom s m == what all lines of s come to, those through the last road being the map m: the last line or the first fault, and the plan
+--                    that they make
+--   draftOf s     == so, with the map that those lines are
+--   refuse r      == the answer that turns a plan away: the cause, and an empty plan
+--   answer l p    == the answer to lines that end with l and make the plan p
+--   answerTo s d  == the answer to the plan file s, whose lines come to d: its length is judged before its lines
+--   readPlan s    == the answer to the plan file s; the plan's size is left open
 use mathlib.Core.Bool.{cond}
 use mathlib.Core.List.{List}
 use Prim.Native.Nat.{ℕ, _^_}
@@ -18,13 +21,13 @@ use Rattle.reader.specs.Blocks.{hardBlock, softBlocks}
 use Rattle.reader.specs.Map.{mapOf}
 use Rattle.text.specs.declared.line.Line.{Line}
 use Rattle.text.specs.declared.line.Line.the-variants as line
+use Rattle.reader.specs.declared.map.Map.{Map}
 use Rattle.reader.specs.declared.Draft.{Draft}
 use Rattle.reader.specs.declared.Outcome.the-variants as outcome
 use Rattle.reader.specs.declared.Reading.{Reading}
 
-unfoldable pub draftOf : List ℕ → Draft
-draftOf s =
-    let m = mapOf s in
+abbrev pub draftFrom : List ℕ → Map → Draft
+draftFrom s m =
     let bound = 2 ^ m .marks in
     let h = hardBlock s (m .line) bound in
     let count = lineOfOne s (h .line) rulesKey 0 9 in
@@ -46,6 +49,9 @@ draftOf s =
       };
     }
 
+unfoldable pub draftOf : List ℕ → Draft
+draftOf s = draftFrom s (mapOf s)
+
 abbrev pub refuse : Refusal → Reading
 refuse r = record { outcome = outcome.Refused r; plan = noPlan }
 
@@ -53,5 +59,8 @@ unfoldable pub answer : Line → Plan → Reading
 answer (line.Fault f) p = refuse (refusal.Line f)
 answer (line.Numbers xs c) p = record { outcome = outcome.Plan; plan = p }
 
+abbrev pub answerTo : List ℕ → Draft → Reading
+answerTo s d = cond (ltb 60000 (length s)) (refuse refusal.PlanTooLong) (answer (d .line) (d .plan))
+
 unfoldable pub readPlan : List ℕ → Reading
-readPlan s = cond (ltb 60000 (length s)) (refuse refusal.PlanTooLong) (answer (draftOf s .line) (draftOf s .plan))
+readPlan s = answerTo s (draftOf s)

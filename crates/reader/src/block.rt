@@ -38,17 +38,18 @@ pub struct RoadBlock {
     pub to: [u8; 1024],
 }
 
-// n roads between places below `bound`.
+// n roads between places below `bound`, each once.
 pub fn road_block(s: &[u8], prior: Line, n: usize, bound: u32) -> RoadBlock
-    requires { ⌜ (n ≤ 1024) × (bound ≤ 256) ⌝ }
+    requires { ⌜ (n ≤ 1024) × (bound ≤ 128) ⌝ }
     ensures { λ r. ⌜ r ≡ roadBlock (now (s .entry)) prior n bound ⌝ }
 {
     let mut line = prior;
     let mut from = [0u8; 1024];
     let mut to = [0u8; 1024];
+    let mut pairs = [0u32; 512];
     let mut i = 0;
     while i < n {
-        line = road_line(s, line, b"road=", bound);
+        line = road_line(s, line, b"road=", bound, &mut pairs);
         let xs = numbers_of(line);
         from[i] = xs.first as u8;
         to[i] = xs.second as u8;

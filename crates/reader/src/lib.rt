@@ -2,6 +2,7 @@
 mod block;
 pub mod line;
 pub mod map;
+mod pairs;
 
 use block::hard_block;
 use block::label_count;

@@ -1,4 +1,8 @@
 //! Lines of a plan file that hold more than one number.
+use crate::pairs::note;
+use crate::pairs::noted;
+use text::fault::Fault;
+use text::line::Cursor;
 use text::line::Line;
 use text::line::Numbers;
 use text::line::bad_form;
@@ -8,10 +12,13 @@ use text::read::Number;
 use text::read::either;
 use text::read::else_number;
 use text::read::key_at;
+use text::read::line_at;
 use text::read::next_number;
 use text::read::value_of;
 ghost use mathlib.Core.Path.{_≡_};
 ghost use Prim.Native.Nat.{_≤_};
+ghost use lib.ListN.{length};
+ghost use Rattle.reader.specs.Pairs.{notedOf};
 ghost use Rattle.reader.specs.Line.{roadFits, roadLine, moveFits, moveLine, RoadRead, MoveRead};
 
 fn road_fits(xs: Numbers, bound: u32) -> bool
@@ -23,10 +30,10 @@ fn road_fits(xs: Numbers, bound: u32) -> bool
     xs.second < bound
 }
 
-// A line `key=a,b`, both below `bound`.
-pub fn road_line(s: &[u8], prior: Line, key: &[u8], bound: u32) -> Line
-    requires { ⌜ bound ≤ 4000000000 ⌝ }
-    ensures { λ r. ⌜ RoadRead (roadLine (now (s .entry)) prior (now (key .entry)) bound) bound r ⌝ }
+// A line `key=a,b`, both below `bound` and not a pair that is noted. If it has no fault, its pair is noted.
+pub fn road_line(s: &[u8], prior: Line, key: &[u8], bound: u32, pairs: &mut [u32]) -> Line
+    requires { ⌜ (bound ≤ 128) × (length (now pairs) ≡ 512) ⌝ }
+    ensures { λ r. ⌜ RoadRead (roadLine (now (s .entry)) prior (now (key .entry)) bound (notedOf (now (pairs .entry)))) bound (now (pairs .entry)) r (now (pairs .exit)) ⌝ }
 {
     let Line::Numbers(_, cursor) = prior else {
         return prior;
@@ -38,7 +45,17 @@ pub fn road_line(s: &[u8], prior: Line, key: &[u8], bound: u32) -> Line
         return bad_form(s, from);
     };
     let xs = pair(value_of(a), y);
-    judged(s, from, at, road_fits(xs, bound), xs)
+    if road_fits(xs, bound) {
+        let x = xs.first as usize;
+        let y = xs.second as usize;
+        let before = noted(pairs, x, y);
+        note(pairs, x, y);
+        if before {
+            return Line::Fault(Fault::Doubled(line_at(s, from)));
+        }
+        return Line::Numbers(xs, Cursor { at });
+    }
+    Line::Fault(Fault::Range(line_at(s, from)))
 }
 
 fn move_fits(xs: Numbers, states: u32, labels: u32) -> bool

@@ -4,7 +4,6 @@
 --                              number that passes it was not held
 --   one-held                == so a line of good form is judged by held values as by the exact ones
 --   one-fault, one-bad, one-good == what a line of one number is: by the line before it, and by its number
---   good l                  == the line l has no fault
 --   Fails s l f             == the fault f is that of the line l, or of a line of s
 --   Led s Q l r             == behind the line l comes the line r: a fault, or, where l has none, numbers of which Q holds
 --   closed-led, low         == what a line of any kind leads to, by its last number; and what is then below a bound
@@ -18,7 +17,7 @@ use lib.Dec.{ltb}
 use borrow.Author.Tests.{ltb-true, ltb-false, lt-ltb, le-ltb}
 use Rattle.text.specs.Fault as fault
 use Rattle.text.specs.Scan.{keyAt, nextNumber, valueOf, lineAt}
-use Rattle.text.specs.Line.{pair, badForm, judged, closed, within, lineOfOne, numbersOf, OneRead}
+use Rattle.text.specs.Line.{pair, badForm, judged, closed, within, lineOfOne, numbersOf, OneRead, good}
 use Rattle.text.specs.declared.fault.Fault.{Fault}
 use Rattle.text.specs.declared.read.Number.{Number}
 use Rattle.text.specs.declared.read.Number.the-variants.{Value, Bad}
@@ -92,10 +91,6 @@ module _ (s : List ℕ) (l : Line) (key : List ℕ) (xs : Numbers) (c : Cursor) 
   one-good low bound x n h a = one-held s (c .at) n (valueOf (first 10)) x low bound (a .held) h ∙ rw (p, a .is)
 
 -- what a line leads to
-abbrev pub good : Line → Bool
-good (line.Numbers xs c) = true
-good (line.Fault f) = false
-
 pub data Fails (s : List ℕ) (l : Line) (f : Fault) : Type 0 where
   before : l ≡ line.Fault f → Fails s l f
   here : (at : ℕ) → fault.lineOf f ≡ lineAt s at → Fails s l f

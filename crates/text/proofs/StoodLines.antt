@@ -40,7 +40,7 @@ use lib.ListN.{length, take, drop, getD, length-append, length-drop}
 use lib.Seq.{drop-cons, drop-drop, take-add, take-append-seam}
 use Rattle.text.specs.Fault as fault
 use Rattle.text.specs.Scan.{startsWith, numberAt, keyAt, nextNumber, valueOf, newlines, lineAt}
-use Rattle.text.specs.Line.{behind, pair, badForm, closed, within, lineOfOne, firstOf, top, finish}
+use Rattle.text.specs.Line.{behind, pair, badForm, closed, within, lineOfOne, firstOf, top, finish, good}
 use Rattle.text.specs.List.{Items, items, bad, ahead, last, entry, entries, itemsAt, under, judgedList, listBehind, listLine, placesOf}
 use Rattle.text.specs.Decimal.{decimal}
 use Rattle.text.specs.KeyLine.{commaed, joined, keyLine}
@@ -54,7 +54,6 @@ use Rattle.text.specs.declared.line.Line.{Line}
 use Rattle.text.specs.declared.line.Line.the-variants as line
 use Rattle.text.specs.declared.list.ListLine.{ListLine}
 use Rattle.text.proofs.Decimals.{decimal-small, decimal-more, decimal-each}
-use Rattle.text.proofs.Lines.{good}
 use Rattle.text.proofs.Entries.{ends-inside}
 use Rattle.text.proofs.Spelling.{Next, final, more, entries-some, entries-next}
 use Rattle.text.proofs.WrittenBack.{pick-value, written-back}

@@ -9,13 +9,14 @@
 --   closed s at last fit xs          == the line at index `at` with the last number `last`: its form is judged before its ranges
 --   within x low bound               == x is at least low and below bound
 --   lineOfOne s prior key low bound  == a line `key=a` with a from low to below bound
+--   good l                           == the line l has no fault
 --   numbersOf l                      == the numbers of a line, 0 of a fault
 --   firstOf l                        == the first of them
 --   top                              == before the first line
 --   finish s last                    == the last line again, or a form fault of the next one where bytes follow it
 --   OneRead given bound r            == r is the line `given`, and its number is at most bound - 1
 use mathlib.Core.Path.{_≡_}
-use mathlib.Core.Bool.{Bool, false, cond}
+use mathlib.Core.Bool.{Bool, true, false, cond}
 use mathlib.Core.List.{List}
 use Prim.Native.Nat.{ℕ, _-_, _≤_}
 use lib.ListN.{length}
@@ -54,6 +55,10 @@ lineOfOne s prior key low bound =
     (λ at.
     let a = nextNumber s (keyAt s at key) 10 in
     closed s at a (within (valueOf a) low bound) (pair (valueOf a) 0))
+
+abbrev pub good : Line → Bool
+good (line.Numbers xs c) = true
+good (line.Fault f) = false
 
 abbrev pub numbersOf : Line → Numbers
 numbersOf (line.Numbers xs c) = xs

@@ -2,10 +2,11 @@
 ghost use mathlib.Core.Path.{_≡_};
 ghost use Rattle.text.specs.Fault.{number, lineOf};
 
-// Its form, or the range of its numbers; with the line, from 1.
+// Its form, the range of its numbers, or that a line before has the same ones; with the line, from 1.
 pub enum Fault {
     Form(usize),
     Range(usize),
+    Doubled(usize),
 }
 
 // The number of a fault.
@@ -15,6 +16,7 @@ pub fn fault_number(fault: Fault) -> u32
     match fault {
         Fault::Form(_) => 2,
         Fault::Range(_) => 3,
+        Fault::Doubled(_) => 10,
     }
 }
 
@@ -25,5 +27,6 @@ pub fn fault_line(fault: Fault) -> usize
     match fault {
         Fault::Form(line) => line,
         Fault::Range(line) => line,
+        Fault::Doubled(line) => line,
     }
 }

@@ -6,7 +6,8 @@ use crate::reader::{number, Refusal};
 use std::fmt::Write;
 
 /// The answers that `plantour` may print, and which of them carry a line of the
-/// plan. A number that a later note adds for a plan line is one row more.
+/// plan: 10 came with 02's note 6. A number that a later note adds for a plan
+/// line is one row more.
 pub const ANSWERS: &[(u8, bool)] = &[
     (0, false),
     (1, false),
@@ -15,6 +16,7 @@ pub const ANSWERS: &[(u8, bool)] = &[
     (4, false),
     (5, false),
     (6, false),
+    (10, true),
 ];
 
 pub const MAX_LINE: u64 = 65_535;

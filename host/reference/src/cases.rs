@@ -1,11 +1,13 @@
 //! Plans and files to try: some fixed ones, and generated ones, each of which
 //! is fixed by its number alone.
 
+use crate::copies::{with_copies, KINDS};
 use crate::damage::{damage, every_damage, Harmed};
 use crate::figures::{figures, soft, x};
+use crate::fixed_copies::copies_of_x;
 use crate::guards::{either, with_any, ALIKE, ALL, SAME};
 use crate::handmade::one_place;
-use crate::maps::{all_roads, chance_roads, labels, places_within};
+use crate::maps::{all_roads, chance_roads, labels, once_each, places_within};
 use crate::plan::{Automaton, Plan, MAX_PLACES, MAX_PLAN_BYTES, MAX_SIZE};
 use crate::random::Random;
 use crate::rules::{again, always, go, go_any, never, once, soft_rules, some_rule};
@@ -44,10 +46,11 @@ impl Case {
 }
 
 /// Files for buffers of every length about the limits: the figures of 01, those
-/// with rules that only watch, one that is too long, and the largest plans
-/// without and with eight soft rules.
+/// with rules that only watch, some with roads that are written twice, one that
+/// is too long, and the largest plans without and with eight soft rules.
 pub fn limit_cases() -> Vec<Case> {
-    let all = figures().into_iter().chain(hand_worked());
+    let copies = copies_of_x().into_iter().map(|fixed| fixed.figure);
+    let all = figures().into_iter().chain(hand_worked()).chain(copies);
     let mut cases: Vec<Case> = all
         .map(|figure| Case::new(&format!("figure {}", figure.name), figure.file))
         .collect();
@@ -98,7 +101,12 @@ pub fn case(number: u64) -> (Case, Random) {
         0..=4 => intact("tiny", tiny(random)),
         5 => intact("tied", tied(random)),
         6..=8 => intact("small", small(random)),
-        9..=13 => damaged(random),
+        9..=12 => damaged(random),
+        13 => {
+            // All kinds in turn.
+            let kind = &KINDS[(number / 16) as usize % KINDS.len()];
+            Case::new(kind.name, kind.file(random))
+        }
         14 => {
             // All shapes in turn, once as large as can be, once smaller.
             let turn = (number / 16) as usize;
@@ -109,7 +117,8 @@ pub fn case(number: u64) -> (Case, Random) {
             };
             let plan = large(shape, size, random);
             let plan = with_any(random, plan, ALIKE);
-            intact(shape.name(), with_watchers(random, plan))
+            let plan = with_watchers(random, plan);
+            Case::new(shape.name(), with_copies(random, plan))
         }
         _ => intact("oversized", oversized(random)),
     };
@@ -149,9 +158,6 @@ pub fn tiny(random: &mut Random) -> Plan {
                 roads.push((from, to));
             }
         }
-    }
-    if random.once_in(4) && !roads.is_empty() {
-        roads.push(*random.pick(&roads));
     }
     random.shuffle(&mut roads);
     let hard = if random.once_in(3) {
@@ -261,7 +267,7 @@ pub fn small(random: &mut Random) -> Plan {
     let size = random.between(100, 800) as u64;
     let places = places_within(size, &hard, &soft);
     let each = random.between(1, 5);
-    let roads = chance_roads(random, places, each * places);
+    let roads = once_each(chance_roads(random, places, each * places));
     let start = random.below(places) as u8;
     let plan = Plan {
         marks,

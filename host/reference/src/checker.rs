@@ -4,7 +4,7 @@
 use crate::acceptance::Drive;
 use crate::breaks::least_break;
 use crate::entry::BLOCK_TOO_SHORT;
-use crate::reader::{read, Refusal};
+use crate::reader::{read, Reader, Refusal};
 
 pub const BLOCK_BYTES: usize = 24;
 
@@ -17,9 +17,20 @@ pub struct Worth {
     pub kept: u8,
 }
 
-/// The worth of the tour, or why there is none: first the plan's refusals, 1 to
-/// 4, then 9. A tour that the hard rule does not accept has its worth too.
+/// The worth of the tour, or why there is none: first the plan's refusals, which
+/// are 1, those of a line (2, 3 and 10) and 4, then 9. A tour that the hard rule
+/// does not accept has its worth too.
 pub fn check(file: &[u8], run_in: &[u8], cycle: &[u8]) -> Result<Worth, Refusal> {
+    check_with(read, file, run_in, cycle)
+}
+
+/// The same with another reader of the file.
+pub fn check_with(
+    read: Reader,
+    file: &[u8],
+    run_in: &[u8],
+    cycle: &[u8],
+) -> Result<Worth, Refusal> {
     let plan = read(file)?;
     if let Some(index) = least_break(&plan, run_in, cycle) {
         return Err(Refusal::Broken { index });
@@ -85,7 +96,15 @@ pub fn check_tour(file: &[u8], run_in: &[u8], cycle: &[u8], block: &mut [u8]) ->
     if block.len() < BLOCK_BYTES {
         return BLOCK_TOO_SHORT;
     }
-    let told = Block::from(check(file, run_in, cycle));
-    block[..BLOCK_BYTES].copy_from_slice(&told.bytes());
+    tell(check(file, run_in, cycle), block)
+}
+
+/// Fills the block, unless it is too short, and gives the number to return.
+pub fn tell(told: Result<Worth, Refusal>, block: &mut [u8]) -> u32 {
+    let told = Block::from(told);
+    match block.get_mut(..BLOCK_BYTES) {
+        Some(bytes) => bytes.copy_from_slice(&told.bytes()),
+        None => return BLOCK_TOO_SHORT,
+    }
     told.number as u32
 }

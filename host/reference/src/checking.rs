@@ -2,9 +2,12 @@
 //! the answers set side by side.
 
 use crate::cases::Case;
-use crate::checker::{Worth, BLOCK_BYTES};
+use crate::checker::{Block, Worth, BLOCK_BYTES};
 use crate::drawn::*;
+use crate::entry::BLOCK_TOO_SHORT;
 use crate::finding::{Due, Finding, JUDGED};
+use crate::fixed_copies::FixedCopy;
+use crate::harness::check_figure;
 use crate::library::{Library, REFERENCE};
 use crate::plan::Plan;
 use crate::random::Random;
@@ -102,13 +105,45 @@ pub fn check_own(
 pub fn check_by_hand(library: Library, hand: &ByHand) -> Result<(), String> {
     let case = Case::new(hand.name, hand.plan.text().into_bytes());
     let lists = (hand.run_in.to_vec(), hand.cycle.to_vec());
+    check_told(library, &case, lists, BLOCK_BYTES, Some(hand.told))
+}
+
+/// Puts a tour with a block of this length and looks for what was worked out by
+/// hand; nothing can be told in a block too short.
+fn check_told(
+    library: Library,
+    case: &Case,
+    lists: Lists,
+    block: usize,
+    told: Option<Block>,
+) -> Result<(), String> {
+    let plan = read(&case.file);
+    let plan = plan.as_ref().map_err(|refusal| *refusal);
     let drawn = Drawn::new("by hand", lists, Known::Nothing);
-    let finding = Finding::of(0, &case, &drawn, BLOCK_BYTES, library);
-    finding.sound(&Due::of(Ok(&hand.plan), &drawn))?;
-    match finding.block() == Some(hand.told) {
+    let finding = Finding::of(0, case, &drawn, block, library);
+    finding.sound(&Due::of(plan, &drawn))?;
+    let number = told.map_or(BLOCK_TOO_SHORT, |told| told.number as u32);
+    let (own, hand) = ((finding.returned, finding.block()), (number, told));
+    match own == hand {
         true => Ok(()),
-        false => Err(format!("{:?}, by hand {:?}", finding.block(), hand.told)),
+        false => Err(format!("{own:?}, by hand {hand:?}")),
     }
+}
+
+/// Puts a plan that was worked out by hand, as `plan_tour` and as `check_tour`
+/// have it: with a tour, and with lists that are none, which matters to a plan
+/// that passes alone.
+pub fn check_fixed_copy(library: Library, fixed: &FixedCopy) -> Result<(), String> {
+    check_figure(library, &fixed.figure)?;
+    let case = Case::new(fixed.figure.name, fixed.figure.file.clone());
+    let tour = (fixed.run_in.to_vec(), fixed.cycle.to_vec());
+    let none = (vec![200], Vec::new());
+    let broken = fixed.told.and(Err(Refusal::Broken { index: 0 }));
+    for (lists, told) in [(tour, fixed.told), (none, broken)] {
+        let told = (fixed.check >= BLOCK_BYTES).then_some(told.into());
+        check_told(library, &case, lists, fixed.check, told)?;
+    }
+    Ok(())
 }
 
 /// Puts the tour with every block of up to 40 bytes.

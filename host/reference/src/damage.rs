@@ -12,8 +12,8 @@ const BEHIND: &[u8] = b"0,0\nmove=0,0,0,0\n";
 
 /// All that one harm of some kinds makes of the file: a cut at each byte, each
 /// bit flipped, each line dropped, each doubled, each two swapped, each number
-/// raised by what a machine word loses, or very long, and each move line and
-/// each weight line with other numbers.
+/// raised by what a machine word loses, or very long, each move line and each
+/// weight line with other numbers, and each road line once more.
 pub fn every_damage(text: &[u8]) -> Vec<Harmed> {
     let mut all = Vec::new();
     for at in 0..text.len() {
@@ -57,6 +57,18 @@ pub fn every_damage(text: &[u8]) -> Vec<Harmed> {
             add(kind, lines.concat());
         }
     }
+    let roads = with_key(&whole, ROAD);
+    for &road in &roads {
+        for &to in &roads {
+            for (kind, lines) in [
+                road_added(&whole, road, to),
+                road_added(&whole, road, to + 1),
+                road_replaced(&whole, road, to),
+            ] {
+                add(kind, lines.concat());
+            }
+        }
+    }
     all
 }
 
@@ -65,7 +77,7 @@ pub fn damage(text: &[u8], random: &mut Random) -> Harmed {
     let mut file = text.to_vec();
     let mut behind = BEHIND.to_vec();
     let at = random.below(file.len());
-    let kind = match random.below(24) {
+    let kind = match random.below(26) {
         0 => {
             file[at] ^= 1 << random.below(8);
             "bit flipped"
@@ -124,6 +136,7 @@ pub fn damage(text: &[u8], random: &mut Random) -> Harmed {
             file.splice(at..at, std::iter::repeat_n(filler, more));
             "stretched"
         }
+        23 | 24 => harm_roads(&mut file, random),
         _ => {
             let length = random.below(40);
             file = (0..length)
@@ -135,7 +148,8 @@ pub fn damage(text: &[u8], random: &mut Random) -> Harmed {
     (kind, file, behind)
 }
 
-fn lines(text: &[u8]) -> Vec<Vec<u8>> {
+/// The lines, each with its last byte.
+pub fn lines(text: &[u8]) -> Vec<Vec<u8>> {
     text.split_inclusive(|&byte| byte == b'\n')
         .map(<[u8]>::to_vec)
         .collect()
@@ -166,9 +180,7 @@ fn harm_key(
     others: fn(&[u8]) -> Vec<Other>,
 ) -> &'static str {
     let mut lines = lines(file);
-    let with_key: Vec<usize> = (0..lines.len())
-        .filter(|&i| lines[i].starts_with(key))
-        .collect();
+    let with_key = with_key(&lines, key);
     if with_key.is_empty() {
         return harm_lines(file, random);
     }
@@ -179,9 +191,58 @@ fn harm_key(
     kind
 }
 
+/// Where the lines with this key stand.
+fn with_key(lines: &[Vec<u8>], key: &[u8]) -> Vec<usize> {
+    (0..lines.len())
+        .filter(|&i| lines[i].starts_with(key))
+        .collect()
+}
+
+/// Writes a road line once more, in addition or in the place of another; if there
+/// is none, it harms lines by chance.
+fn harm_roads(file: &mut Vec<u8>, random: &mut Random) -> &'static str {
+    let lines = lines(file);
+    let roads = with_key(&lines, ROAD);
+    if roads.is_empty() {
+        return harm_lines(file, random);
+    }
+    let (road, to) = (*random.pick(&roads), *random.pick(&roads));
+    let (kind, lines) = match random.once_in(2) {
+        true => road_added(&lines, road, to + random.below(2)),
+        false => road_replaced(&lines, road, to),
+    };
+    *file = lines.concat();
+    kind
+}
+
+/// The lines after a harm, and its name.
+type OtherLines = (&'static str, Vec<Vec<u8>>);
+
+/// The road line once more, before the line `to`, with the count of roads raised,
+/// so that no line is one too many.
+fn road_added(lines: &[Vec<u8>], road: usize, to: usize) -> OtherLines {
+    let mut lines = lines.to_vec();
+    lines.insert(to, lines[road].clone());
+    for at in with_key(&lines, ROADS) {
+        let count = numbers(&lines[at])[0].clone();
+        let raised = value(&lines[at][count.clone()]) + 1;
+        lines[at].splice(count, raised.to_string().into_bytes());
+    }
+    ("road line added", lines)
+}
+
+/// The road line once more, in the place of the line `to`.
+fn road_replaced(lines: &[Vec<u8>], road: usize, to: usize) -> OtherLines {
+    let mut lines = lines.to_vec();
+    lines[to] = lines[road].clone();
+    ("road line replaced", lines)
+}
+
 /// What is done to a line, and the line in its place.
 type Other = (&'static str, Vec<u8>);
 
+const ROADS: &[u8] = b"roads=";
+const ROAD: &[u8] = b"road=";
 const MOVE: &[u8] = b"move=";
 const WEIGHT: &[u8] = b"weight=";
 

@@ -2,10 +2,13 @@
 
 use crate::plan::Plan;
 use crate::planner::{best_tour, Tour};
-use crate::reader::{read, Refusal};
+use crate::reader::{read, Reader, Refusal};
 
 pub const BLOCK_BYTES: usize = 16;
 pub const BLOCK_TOO_SHORT: u32 = 7;
+
+/// The numbers that `plan_tour` gives.
+pub const NUMBERS: [u32; 9] = [0, 1, 2, 3, 4, 5, 6, 7, 10];
 
 /// The first 16 bytes of the answer block as numbers.
 #[derive(Clone, Copy, Debug, Default, PartialEq, Eq)]
@@ -36,10 +39,21 @@ impl Block {
 /// Plans the file. A refused call leaves run-in and loop as they were, and a
 /// block too short is left too.
 pub fn plan_tour(file: &[u8], answer: &mut [u8], run_in: &mut [u8], cycle: &mut [u8]) -> u32 {
+    plan_with(read, file, answer, run_in, cycle)
+}
+
+/// The same with another reader of the file.
+pub fn plan_with(
+    read: Reader,
+    file: &[u8],
+    answer: &mut [u8],
+    run_in: &mut [u8],
+    cycle: &mut [u8],
+) -> u32 {
     if answer.len() < BLOCK_BYTES {
         return BLOCK_TOO_SHORT;
     }
-    let block = match plan_into(file, run_in, cycle) {
+    let block = match read(file).and_then(|plan| plan_into(&plan, run_in, cycle)) {
         Ok(block) => block,
         Err(refusal) => Block {
             number: refusal.number() as u8,
@@ -51,15 +65,14 @@ pub fn plan_tour(file: &[u8], answer: &mut [u8], run_in: &mut [u8], cycle: &mut 
     block.number as u32
 }
 
-fn plan_into(file: &[u8], run_in: &mut [u8], cycle: &mut [u8]) -> Result<Block, Refusal> {
-    let plan = read(file)?;
+fn plan_into(plan: &Plan, run_in: &mut [u8], cycle: &mut [u8]) -> Result<Block, Refusal> {
     if (run_in.len() as u64) < plan.size() || (cycle.len() as u64) < plan.cycle_bound() {
         return Err(Refusal::Buffer);
     }
-    let (tour, kept) = best_tour(&plan).ok_or(Refusal::NoTour)?;
+    let (tour, kept) = best_tour(plan).ok_or(Refusal::NoTour)?;
     run_in[..tour.run_in.len()].copy_from_slice(&tour.run_in);
     cycle[..tour.cycle.len()].copy_from_slice(&tour.cycle);
-    Ok(success(&plan, &tour, kept))
+    Ok(success(plan, &tour, kept))
 }
 
 fn success(plan: &Plan, tour: &Tour, kept: u8) -> Block {

@@ -1,5 +1,6 @@
 //! The cases of 01, "Figures to check against", that are files and answers.
 
+use crate::entry::BLOCK_BYTES;
 use crate::handmade::{silent, x_under};
 use crate::plan::{Automaton, Plan, Soft};
 use crate::rules::{again, always, never, once};
@@ -7,6 +8,8 @@ use crate::rules::{again, always, never, once};
 pub struct Figure {
     pub name: &'static str,
     pub file: Vec<u8>,
+    /// The length of the answer block.
+    pub answer: usize,
     /// The lengths of the run-in's and the loop's buffer.
     pub buffers: (usize, usize),
     pub number: u32,
@@ -78,6 +81,7 @@ impl Figure {
         Figure {
             name,
             file: file.to_vec(),
+            answer: BLOCK_BYTES,
             buffers: (2_048, 20_480),
             number,
             line,

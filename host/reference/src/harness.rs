@@ -26,8 +26,9 @@ pub fn check(
     random: &mut Random,
     tally: &mut Tally,
 ) -> Result<(), String> {
-    let plan = read(&case.file).ok();
-    let plan = plan.as_ref();
+    let plan = read(&case.file);
+    tally.copied.file(&case.file, plan.as_ref());
+    let plan = plan.as_ref().ok();
     if let Some(plan) = plan {
         tally.plan(&case.kind, plan);
     }
@@ -96,7 +97,7 @@ fn one_call(
 ) -> Result<Found, String> {
     let reference = Reply::of(salt, case, lengths, REFERENCE);
     let own = Reply::of(salt, case, lengths, library);
-    tally.calls[reference.returned as usize] += 1;
+    tally.call(reference.returned);
 
     let with_lengths = |what: String| format!("{what}\nbuffers: {lengths:?}");
     reference
@@ -120,12 +121,12 @@ fn one_call(
     Ok(found)
 }
 
-/// Puts one of 01's cases to the library and looks for the answer that 01
-/// gives, whatever the reference says.
+/// Puts a file to the library and looks for the answer that 01 gives, or that was
+/// worked out by hand, whatever the reference says.
 pub fn check_figure(library: Library, figure: &Figure) -> Result<(), String> {
     let case = Case::new(figure.name, figure.file.clone());
     let lengths = Lengths {
-        answer: BLOCK_BYTES,
+        answer: figure.answer,
         run_in: figure.buffers.0,
         cycle: figure.buffers.1,
     };
@@ -139,8 +140,10 @@ pub fn check_figure(library: Library, figure: &Figure) -> Result<(), String> {
         count: figure.kept.count_ones() as u8,
         ..Block::default()
     };
-    if reply.fixed() != Some(given) {
-        return Err(format!("answer {:?}, given {given:?}", reply.fixed()));
+    let given = (figure.answer >= BLOCK_BYTES).then_some(given);
+    let (told, given) = ((reply.returned, reply.fixed()), (figure.number, given));
+    if told != given {
+        return Err(format!("answer {told:?}, given {given:?}"));
     }
     Ok(())
 }

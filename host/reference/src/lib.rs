@@ -22,6 +22,8 @@
 //! | `walks` | walks of a map, and where they close to tours |
 //! | `guards` | their move lines of five numbers |
 //! | `watchers` | their rules of weight 0, and plans with such rules that were worked out by hand |
+//! | `copies` | their roads that are written twice |
+//! | `fixed_copies` | plans with such roads whose answers were worked out by hand |
 //! | `damage` | faulty files, made from good ones |
 //! | `slips` | what may stand in the place of one line of an answer |
 //! | `texts`, `batches` | texts to read as answers: fixed ones, and generated ones |
@@ -41,6 +43,7 @@
 //! | `checking` | one proposed tour put to both checkers, the answers set side by side |
 //! | `checked` | what a comparison has met of `check_tour` |
 //! | `watched` | what it has met of rules of weight 0 |
+//! | `copied` | what it has met of roads that are written twice |
 //! | `tally` | what a comparison has met, and what it should have met |
 //! | `transcript` | a library's answers to generated plans, written down with their places |
 
@@ -55,11 +58,14 @@ pub mod checked;
 pub mod checker;
 pub mod checking;
 pub mod components;
+pub mod copied;
+pub mod copies;
 pub mod damage;
 pub mod drawn;
 pub mod entry;
 pub mod figures;
 pub mod finding;
+pub mod fixed_copies;
 pub mod guards;
 pub mod handmade;
 pub mod harness;

@@ -2,11 +2,12 @@
 
 use crate::figures::{soft, x};
 use crate::handmade::{one_place, two_places};
-use crate::maps::{chance_roads, round_and_more};
+use crate::maps::{all_roads, once_each, round_and_more};
 use crate::plan::{Automaton, Plan, MAX_MOVES, MAX_PLACES, MAX_ROADS};
 use crate::random::Random;
 use crate::rules::{always, chance, counter, full, go_any};
 use crate::walks::Ways;
+use std::cmp::Reverse;
 
 pub struct Load {
     pub name: &'static str,
@@ -89,7 +90,7 @@ fn wide(hard: Automaton) -> Plan {
         marks: 4,
         labels: (0..places as u8).map(|place| place % 16).collect(),
         start: 0,
-        roads,
+        roads: once_each(roads),
         hard,
         soft: Vec::new(),
     }
@@ -103,11 +104,12 @@ fn longest() -> Plan {
     let rule = Automaton { moves, ..always() };
     let places = MAX_PLACES as usize;
     let last = places as u8 - 1;
-    let mut roads = chance_roads(&mut Random::new(3), 28, MAX_ROADS as usize - 2);
-    for (from, to) in &mut roads {
-        (*from, *to) = (*from + 100, *to + 100);
-    }
-    roads.extend([(last, last - 1), (last - 1, last)]);
+    // The roads with the longest lines, in some order.
+    let mut roads = all_roads(places);
+    let digits = |place: u8| place.to_string().len();
+    roads.sort_by_key(|&(from, to)| Reverse(digits(from) + digits(to)));
+    roads.truncate(MAX_ROADS as usize);
+    Random::new(3).shuffle(&mut roads);
     Plan {
         marks: 8,
         labels: (0..places as u8).map(|place| 128 + place).collect(),

@@ -1,8 +1,9 @@
 //! Places, labels and roads for generated plans.
 
 use crate::handmade::one_place;
-use crate::plan::{Automaton, Soft, MAX_PLACES, MAX_ROADS};
+use crate::plan::{Automaton, Road, Soft, MAX_PLACES, MAX_ROADS};
 use crate::random::Random;
+use std::collections::HashSet;
 
 /// How many places keep N within `size` with these automata.
 pub fn places_within(size: u64, hard: &Automaton, soft: &[Soft]) -> usize {
@@ -18,32 +19,42 @@ pub fn labels(random: &mut Random, places: usize, marks: u8) -> Vec<u8> {
 }
 
 /// A road from each place to the next, from `first` to below `end`.
-pub fn row(first: usize, end: usize) -> Vec<(u8, u8)> {
+pub fn row(first: usize, end: usize) -> Vec<Road> {
     (first + 1..end)
         .map(|to| (to as u8 - 1, to as u8))
         .collect()
 }
 
-pub fn all_roads(places: usize) -> Vec<(u8, u8)> {
+pub fn all_roads(places: usize) -> Vec<Road> {
     let from_all = |from| (0..places as u8).map(move |to| (from, to));
     (0..places as u8).flat_map(from_all).collect()
 }
 
-pub fn chance_roads(random: &mut Random, places: usize, count: usize) -> Vec<(u8, u8)> {
+/// Roads by chance, in which one may well stand twice.
+pub fn chance_roads(random: &mut Random, places: usize, count: usize) -> Vec<Road> {
     let mut road = || (random.below(places) as u8, random.below(places) as u8);
     (0..count.min(MAX_ROADS as usize)).map(|_| road()).collect()
 }
 
 /// A row that closes on itself.
-pub fn ring(places: usize) -> Vec<(u8, u8)> {
+pub fn ring(places: usize) -> Vec<Road> {
     [row(0, places), vec![(places as u8 - 1, 0)]].concat()
 }
 
-/// A ring through all places in some order, and roads by chance.
-pub fn round_and_more(random: &mut Random, places: usize, more: usize) -> Vec<(u8, u8)> {
+/// A ring through all places in some order, and roads by chance, in which one
+/// may well stand twice.
+pub fn round_and_more(random: &mut Random, places: usize, more: usize) -> Vec<Road> {
     let mut order: Vec<u8> = (0..places as u8).collect();
     random.shuffle(&mut order);
-    let name = |(a, b): (u8, u8)| (order[a as usize], order[b as usize]);
+    let name = |(a, b): Road| (order[a as usize], order[b as usize]);
     let round = ring(places).into_iter().map(name).collect();
     [round, chance_roads(random, places, more)].concat()
+}
+
+/// Each of the roads once, where it first stands: a plan that has one twice is
+/// turned away (02, note 6).
+pub fn once_each(mut roads: Vec<Road>) -> Vec<Road> {
+    let mut met = HashSet::new();
+    roads.retain(|&road| met.insert(road));
+    roads
 }

@@ -13,6 +13,9 @@ pub const MAX_RULES: u64 = 8;
 pub const MAX_WEIGHT: u64 = 4_000_000;
 pub const MAX_SIZE: u64 = 2_048;
 
+/// One line `road=A,B`: one-way, from the first place to the second.
+pub type Road = (u8, u8);
+
 /// One line `move=q,need,bar,r`, or `move=q,need,bar,any,r` (02, note 1).
 #[derive(Clone, Copy, Debug, PartialEq, Eq)]
 pub struct Move {
@@ -73,7 +76,8 @@ pub struct Plan {
     /// One label for each place.
     pub labels: Vec<u8>,
     pub start: u8,
-    pub roads: Vec<(u8, u8)>,
+    /// No road stands here twice in a plan that was read (02, note 6).
+    pub roads: Vec<Road>,
     pub hard: Automaton,
     pub soft: Vec<Soft>,
 }
@@ -145,6 +149,12 @@ impl Plan {
         let differ = one ^ other;
         let lowest = differ & differ.wrapping_neg();
         one & lowest != 0
+    }
+
+    /// The line of the file, from 1, that has the road with this index.
+    pub fn road_line(&self, index: usize) -> usize {
+        // Before it: tour, marks, places, the labels, start, roads.
+        3 + self.labels.len() + 2 + index + 1
     }
 
     /// The plan file of this plan.

@@ -10,13 +10,23 @@ type Range = RangeInclusive<u64>;
 #[derive(Clone, Copy, Debug, PartialEq, Eq)]
 pub enum Refusal {
     TooLong,
-    Form { line: u32 },
-    Range { line: u32 },
+    Form {
+        line: u32,
+    },
+    Range {
+        line: u32,
+    },
     TooLarge,
     Buffer,
     NoTour,
     Contradiction,
-    Broken { index: u64 },
+    Broken {
+        index: u64,
+    },
+    /// A road that stands on an earlier line too (02, note 6).
+    Doubled {
+        line: u32,
+    },
 }
 
 impl Refusal {
@@ -30,12 +40,13 @@ impl Refusal {
             Refusal::NoTour => 6,
             Refusal::Contradiction => 8,
             Refusal::Broken { .. } => 9,
+            Refusal::Doubled { .. } => 10,
         }
     }
 
     pub fn line(self) -> u32 {
         match self {
-            Refusal::Form { line } | Refusal::Range { line } => line,
+            Refusal::Form { line } | Refusal::Range { line } | Refusal::Doubled { line } => line,
             _ => 0,
         }
     }
@@ -48,8 +59,28 @@ impl Refusal {
     }
 }
 
-/// Reads a whole file: refusals 1, 2, 3 and 4, the first that holds.
+/// From the bytes of a plan file to a plan, or to why it is turned away.
+pub type Reader = fn(&[u8]) -> Result<Plan, Refusal>;
+
+/// Reads a whole file: refusals 1, those of a line (2, 3 and 10) and 4, the
+/// first that holds.
 pub fn read(file: &[u8]) -> Result<Plan, Refusal> {
+    // From each place a bit for each place, set when that road is met. Hashing
+    // would slow down large plans, and clearing a byte for each pair small ones:
+    // `bench` holds the library against this time.
+    let mut met = [[0u8; MAX_PLACES as usize / 8]; MAX_PLACES as usize];
+    read_with(file, |(from, to)| {
+        let bits = &mut met[from as usize][to as usize / 8];
+        let bit = 1 << (to % 8);
+        let is_copy = *bits & bit != 0;
+        *bits |= bit;
+        is_copy
+    })
+}
+
+/// The same, but what is a copy of an earlier road, that is asked: once for each
+/// road line of good form and range, in the order of the file.
+pub fn read_with(file: &[u8], is_copy: impl FnMut(Road) -> bool) -> Result<Plan, Refusal> {
     if file.len() > MAX_PLAN_BYTES {
         return Err(Refusal::TooLong);
     }
@@ -57,7 +88,7 @@ pub fn read(file: &[u8]) -> Result<Plan, Refusal> {
         rest: file,
         done: 0,
     };
-    let plan = read_plan(&mut lines)?;
+    let plan = read_plan(&mut lines, is_copy)?;
     lines.end()?;
     if plan.size() > MAX_SIZE {
         return Err(Refusal::TooLarge);
@@ -65,7 +96,7 @@ pub fn read(file: &[u8]) -> Result<Plan, Refusal> {
     Ok(plan)
 }
 
-fn read_plan(lines: &mut Lines) -> Result<Plan, Refusal> {
+fn read_plan(lines: &mut Lines, mut is_copy: impl FnMut(Road) -> bool) -> Result<Plan, Refusal> {
     lines.one("tour", 1..=1)?;
     let marks = lines.one("marks", 0..=MAX_MARKS)?;
     let last_label = (1 << marks) - 1;
@@ -80,7 +111,11 @@ fn read_plan(lines: &mut Lines) -> Result<Plan, Refusal> {
     for _ in 0..count {
         let place = 0..=places - 1;
         let ends = lines.take("road", &[&[&place, &place]])?;
-        roads.push((ends[0] as u8, ends[1] as u8));
+        let road = (ends[0] as u8, ends[1] as u8);
+        if is_copy(road) {
+            return Err(Refusal::Doubled { line: lines.done });
+        }
+        roads.push(road);
     }
     let states = lines.one("hard", 1..=MAX_HARD_STATES)?;
     let hard = read_body(lines, states, last_label)?;

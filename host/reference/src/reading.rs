@@ -161,8 +161,17 @@ fn one_call(
     own.agrees(&reference).map_err(with_lengths)?;
     let fault = reference.block().map_or(0, |block| block.fault);
     tally.read(reference.returned, fault);
-    if reference.returned == 5 && read(&case.file).is_ok_and(|text| text.contradicts_itself()) {
-        tally.hidden += 1;
+    if let Ok(text) = read(&case.file) {
+        let number = reference.returned;
+        tally.hidden += (number == 5 && text.contradicts_itself()) as usize;
+        if text.number == 10 {
+            match (number, text.line) {
+                (0, _) => tally.doubled_read[0] += 1,
+                (8, 0) => tally.doubled_read[1] += 1,
+                (8, _) => tally.doubled_read[2] += 1,
+                _ => {}
+            }
+        }
     }
     Ok(answer)
 }

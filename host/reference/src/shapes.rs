@@ -1,7 +1,7 @@
 //! Large plans in several shapes, each a trial of another kind.
 
 use crate::maps::*;
-use crate::plan::{Automaton, Plan, Soft, MAX_ROADS};
+use crate::plan::{Automaton, Plan, Road, Soft, MAX_ROADS};
 use crate::random::Random;
 use crate::rules::*;
 
@@ -190,7 +190,7 @@ fn beads(size: u64, random: &mut Random) -> Plan {
             [(i, i + 1), (i + 1, i), (i, i + 2), (i + 2, on), (i, on)]
         };
         let last = (places.max(3) - 3) as u8;
-        let roads: Vec<(u8, u8)> = (0..=last).step_by(3).flat_map(bead).collect();
+        let roads: Vec<Road> = (0..=last).step_by(3).flat_map(bead).collect();
         roads
             .into_iter()
             .filter(|&(a, b)| a.max(b) < places as u8)
@@ -285,7 +285,7 @@ fn build(
     marks: u8,
     hard: Automaton,
     soft: Vec<Soft>,
-    roads: impl Fn(&mut Random, usize) -> Vec<(u8, u8)>,
+    roads: impl Fn(&mut Random, usize) -> Vec<Road>,
 ) -> Plan {
     let places = places_within(size, &hard, &soft);
     let mut roads = roads(random, places);
@@ -296,14 +296,14 @@ fn build(
         marks,
         labels: labels(random, places, marks),
         start,
-        roads,
+        roads: once_each(roads),
         hard,
         soft,
     }
 }
 
 /// Place 0 is the start, then come the chain's places, then the many.
-fn fan_roads(random: &mut Random, places: usize) -> Vec<(u8, u8)> {
+fn fan_roads(random: &mut Random, places: usize) -> Vec<Road> {
     if places < 4 {
         return all_roads(places);
     }

@@ -172,6 +172,7 @@ pub fn block_tours() -> Vec<(Case, Drawn)> {
     };
     let text = |plan: Plan| plan.text().into_bytes();
     let spoilt = |from, to| x().text().replace(from, to).into_bytes();
+    let doubled = spoilt("road=1,0", "road=0,1");
     vec![
         row("0, accepted", text(x()), vec![0, 1]),
         row("0, not accepted", text(x_under(silent())), vec![0, 1]),
@@ -180,6 +181,8 @@ pub fn block_tours() -> Vec<(Case, Drawn)> {
         row("3", spoilt("start=0", "start=3"), vec![0, 1]),
         row("4", text(at_the_bound(true)), vec![0, 1]),
         row("9", text(x()), vec![0, 1, 1]),
+        row("10", doubled.clone(), vec![0, 1]),
+        row("10, no tour", doubled, vec![0, 1, 1]),
     ]
 }
 

@@ -3,6 +3,8 @@
 use crate::answers::LINES;
 use crate::batches::GENERATED;
 use crate::checked::Checked;
+use crate::copied::Copied;
+use crate::entry::NUMBERS;
 use crate::plan::Plan;
 use crate::shapes::SHAPES;
 use crate::texts::FIXED;
@@ -20,8 +22,8 @@ const READ: [u32; 6] = [0, 2, 3, 5, 7, 8];
 #[derive(Default)]
 pub struct Tally {
     /// Calls by the number returned, and cases with such a call.
-    pub calls: [usize; 8],
-    pub cases: [usize; 8],
+    pub calls: BTreeMap<u32, usize>,
+    pub cases: BTreeMap<u32, usize>,
     /// Plans with a rule that may choose between moves, and plans with a move
     /// line of five numbers.
     pub choices: usize,
@@ -47,21 +49,30 @@ pub struct Tally {
     pub fixed_texts: BTreeMap<String, usize>,
     pub generated_texts: BTreeMap<String, usize>,
     pub read_back: [usize; 2],
+    /// Calls that read answer 10, with a line, and calls that refused one with 8
+    /// for want of a line, or for another contradiction.
+    pub doubled_read: [usize; 3],
     pub checked: Checked,
     pub watched: Watched,
+    pub copied: Copied,
 }
 
 impl Tally {
     /// Counts the calls of one case.
     pub fn case<T>(&mut self, calls: impl FnOnce(&mut Tally) -> T) -> T {
-        let before = self.calls;
+        let before = self.calls.clone();
         let result = calls(self);
-        for (number, before) in before.into_iter().enumerate() {
-            if self.calls[number] > before {
-                self.cases[number] += 1;
+        for (number, count) in &self.calls {
+            if before.get(number) != Some(count) {
+                *self.cases.entry(*number).or_default() += 1;
             }
         }
         result
+    }
+
+    /// Counts a call of `plan_tour`.
+    pub fn call(&mut self, number: u32) {
+        *self.calls.entry(number).or_default() += 1;
     }
 
     pub fn plan(&mut self, kind: &str, plan: &Plan) {
@@ -122,12 +133,18 @@ impl Tally {
         for (what, count) in ["tour", "refusal"].into_iter().zip(self.read_back) {
             all.push((format!("a planner's {what} read back"), count));
         }
+        let doubled = ["read", "refused without a line", "refused with a line"];
+        for (what, count) in doubled.into_iter().zip(self.doubled_read) {
+            all.push((format!("a text with answer 10, {what}"), count));
+        }
         all
     }
 
     /// What a run of some length should have met and has not.
     pub fn lacks(&self) -> Vec<String> {
-        let numbers = (0..8).map(|number| (format!("the number {number}"), self.calls[number]));
+        let count = |number| self.calls.get(number).copied().unwrap_or(0);
+        let numbers = NUMBERS.iter();
+        let numbers = numbers.map(|number| (format!("the number {number}"), count(number)));
         let shapes = SHAPES.iter().map(|shape| {
             let count = self.near.get(shape.name()).copied().unwrap_or(0);
             (format!("shape {} near the bound", shape.name()), count)
@@ -141,7 +158,7 @@ impl Tally {
             ("a tour without a run-in".into(), self.followed[1]),
         ];
         let planning = numbers.chain(shapes).chain(others);
-        let planning = planning.chain(self.watched.due());
+        let planning = planning.chain(self.watched.due()).chain(self.copied.due());
         let all = planning.chain(self.reading()).chain(self.checked.due());
         all.filter(|(_, count)| *count == 0)
             .map(|(what, _)| what)
@@ -151,22 +168,24 @@ impl Tally {
 
 impl fmt::Display for Tally {
     fn fmt(&self, f: &mut fmt::Formatter) -> fmt::Result {
-        let mut row = |name: &str, counts: [usize; 8]| {
+        let mut row = |name: &str, value: &dyn Fn(u32) -> usize| {
             write!(f, "{name:6}")?;
-            for count in counts {
-                write!(f, " {count:>7}")?;
+            for number in NUMBERS {
+                write!(f, " {:>7}", value(number))?;
             }
             writeln!(f)
         };
-        row("number", [0, 1, 2, 3, 4, 5, 6, 7])?;
-        row("cases", self.cases)?;
-        row("calls", self.calls)?;
+        let in_map = |map: &BTreeMap<u32, usize>, number| map.get(&number).copied().unwrap_or(0);
+        row("number", &|number| number as usize)?;
+        row("cases", &|number| in_map(&self.cases, number))?;
+        row("calls", &|number| in_map(&self.calls, number))?;
         writeln!(
             f,
             "plans with a choice of moves: {}; with a move line of five numbers: {}",
             self.choices, self.fives
         )?;
         writeln!(f, "{}", self.watched)?;
+        writeln!(f, "{}", self.copied)?;
         let near: Vec<String> = self
             .near
             .iter()
@@ -183,12 +202,15 @@ impl fmt::Display for Tally {
         writeln!(
             f,
             "texts read: {} fixed, {} generated; planner's answers read back: {} tours, {} refusals\n\
-             calls to read: {}",
+             calls to read: {}; answer 10 read {}, refused without a line {}, with one {}",
             sum(&self.fixed_texts),
             sum(&self.generated_texts),
             self.read_back[0],
             self.read_back[1],
-            numbers.join(", ")
+            numbers.join(", "),
+            self.doubled_read[0],
+            self.doubled_read[1],
+            self.doubled_read[2]
         )?;
         writeln!(f, "{}", self.checked)?;
         write!(

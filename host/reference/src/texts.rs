@@ -105,13 +105,16 @@ pub fn buffer_texts() -> Vec<Case> {
 /// buffers are long enough.
 pub fn block_texts() -> Vec<Case> {
     let [tour, refusal] = models().map(|answer| answer.text());
+    let doubled = refusal.replace("answer=3", "answer=10");
     let texts = [
         ("0, a tour", tour.clone()),
         ("0, a refusal", refusal.clone()),
+        ("0, a doubled road", doubled.clone()),
         ("2", tour.replace("kept", "keep")),
         ("3", tour.replace("127", "128")),
         ("8, a tour", tour.replace("line=0", "line=1")),
         ("8, a refusal", refusal.replace("line=12", "line=0")),
+        ("8, a doubled road", doubled.replace("line=12", "line=0")),
     ];
     texts
         .map(|(kind, text)| case(&format!("number {kind}"), whole(text)))

@@ -4,6 +4,7 @@
 
 use crate::answers::joined;
 use crate::cases::{case, Case};
+use crate::entry::NUMBERS;
 use crate::harness::exact;
 use crate::library::Library;
 use crate::reader::read;
@@ -29,7 +30,7 @@ impl Default for Transcript {
     fn default() -> Transcript {
         Transcript {
             plans: 0,
-            numbers: (0..8).map(|number| (number, 0)).collect(),
+            numbers: NUMBERS.map(|number| (number, 0)).into(),
             files: BTreeSet::new(),
             run_ins: 0,
             loops: 0,

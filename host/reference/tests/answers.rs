@@ -224,6 +224,8 @@ fn ends_of_the_ranges() {
     let long = "9".repeat(300);
     let ends = [
         (1, "answer", "6", "7"),
+        (1, "answer", "10", "9"),
+        (1, "answer", "10", "11"),
         (2, "line", "65535", "65536"),
         (3, "cost", "32000000", "32000001"),
         (4, "kept", "255", "256"),
@@ -240,7 +242,7 @@ fn ends_of_the_ranges() {
             assert_eq!(refused(&text), (3, line as u32), "{text:?}");
         }
     }
-    for number in 7..300 {
+    for number in (7..300).filter(|number| *number != 10) {
         let text = with_line(TOUR, 1, &format!("answer={number}"));
         assert_eq!(refused(&text), (3, 1));
     }
@@ -308,7 +310,8 @@ fn each_contradiction_alone() {
     }
 }
 
-/// Of the numbers that 01 gives for a plan, 2 and 3 have a line.
+/// Of the numbers that 01 gives for a plan, 2 and 3 have a line, and so has 10 of
+/// 02's note 6.
 #[test]
 fn the_table_of_answers() {
     let carriers: Vec<u8> = ANSWERS
@@ -316,9 +319,36 @@ fn the_table_of_answers() {
         .filter(|row| row.1)
         .map(|row| row.0)
         .collect();
-    assert_eq!(carriers, [2, 3]);
+    assert_eq!(carriers, [2, 3, 10]);
     let numbers: Vec<u8> = ANSWERS.iter().map(|row| row.0).collect();
-    assert_eq!(numbers, [0, 1, 2, 3, 4, 5, 6]);
+    assert_eq!(numbers, [0, 1, 2, 3, 4, 5, 6, 10]);
+}
+
+#[test]
+fn the_answer_of_a_doubled_road() {
+    let text = |number: u32, line: u32| {
+        format!("answer={number}\nline={line}\ncost=0\nkept=0\nrunin=\nloop=\n")
+    };
+    for line in [1, 9, 65_535] {
+        let given = Answer {
+            number: 10,
+            line,
+            ..Answer::default()
+        };
+        assert_eq!(call(&text(10, line), 0, 0), (0, 0, Some(given)));
+        // The numbers about it are never answers of a plan.
+        for number in [7, 8, 9, 11, 12, 13, 100, 266] {
+            assert_eq!(refused(&text(number, line)), (3, 1));
+            assert_eq!(refused(&text(number, 0)), (3, 1));
+        }
+    }
+    assert_eq!(refused(&text(10, 0)), (8, 0));
+    assert_eq!(refused(&text(10, 65_536)), (3, 2));
+    assert_eq!(refused(&text(10, 9).replace("=10", "=010")), (2, 1));
+    // A list that its buffer does not hold comes before the contradiction.
+    let listed = text(10, 0).replace("loop=", "loop=0,1");
+    assert_eq!(call(&listed, 0, 1), (5, 0, None));
+    assert_eq!(call(&listed, 0, 2), (8, 0, None));
 }
 
 #[test]
@@ -440,7 +470,7 @@ fn nothing_of_reading_is_lacking_after_some_batches() {
             .collect()
     };
     let mut tally = Tally::default();
-    let all = 6 + 7 + 6 + 1 + FIXED.len() + GENERATED.len() + 2;
+    let all = 6 + 7 + 6 + 1 + FIXED.len() + GENERATED.len() + 2 + 3;
     assert_eq!(of_reading(&tally).len(), all);
     for number in 0..100 {
         let (cases, mut random) = batch(number);

@@ -66,7 +66,7 @@ fn block_tours_come_to_what_they_tell() {
         );
         met.insert((number, told.is_ok_and(|worth| worth.accepted)));
     }
-    let numbers = [1, 2, 3, 4, 9].map(|number| (number, false));
+    let numbers = [1, 2, 3, 4, 9, 10].map(|number| (number, false));
     let both = [(0, false), (0, true)];
     assert_eq!(met, numbers.into_iter().chain(both).collect());
 }
@@ -148,7 +148,7 @@ fn nothing_of_checking_is_lacking_after_some_cases() {
     let mut tally = Tally::default();
     assert_eq!(
         of_checking(&tally).len(),
-        7 + KINDS.len() + CAUSES.len() + 5
+        8 + KINDS.len() + CAUSES.len() + 5
     );
     let mut number = 0;
     while !of_checking(&tally).is_empty() && number < 500 {

@@ -5,7 +5,7 @@ use reference::acceptance::Drive;
 use reference::breaks::least_break;
 use reference::cases::{case, Case};
 use reference::causes::{causes, Cause};
-use reference::checker::{self, check, Block, Worth};
+use reference::checker::{self, check, tell, Worth};
 use reference::checking::{
     check_beside_harm, check_blocks, check_by_hand, check_chance_tours, check_drawn,
     check_every_list,
@@ -93,16 +93,6 @@ macro_rules! fault {
             assert!(found_out_by_chance(faulty).is_some());
         }
     };
-}
-
-/// Fills the block, unless it is too short.
-fn tell(told: impl Into<Block>, block: &mut [u8]) -> u32 {
-    let told = told.into();
-    match block.get_mut(..24) {
-        Some(bytes) => bytes.copy_from_slice(&told.bytes()),
-        None => return 7,
-    }
-    told.number as u32
 }
 
 /// Answers as the reference does, but for one change of what it tells.

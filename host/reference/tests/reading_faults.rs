@@ -210,6 +210,49 @@ fault!(
 );
 
 fault!(
+    lets_10_without_a_line_through,
+    |text, block, run_in, cycle| {
+        let_through(text, block, run_in, cycle, |answer| {
+            let with = Answer {
+                line: 1,
+                ..answer.clone()
+            };
+            answer.number == 10 && !with.contradicts_itself()
+        })
+    }
+);
+
+fault!(wants_10_without_a_line, |text, block, run_in, cycle| {
+    let number = answers::read_answer(text, block, run_in, cycle);
+    match (number, read(text)) {
+        (0, Ok(answer)) if answer.number == 10 => refuse(block, Refusal::Contradiction),
+        _ => number,
+    }
+});
+
+fault!(
+    lets_a_tour_beside_10_through,
+    |text, block, run_in, cycle| {
+        let_through(text, block, run_in, cycle, |answer| {
+            let bare = Answer {
+                number: 10,
+                line: answer.line,
+                ..Answer::default()
+            };
+            answer.number == 10 && !bare.contradicts_itself()
+        })
+    }
+);
+
+fault!(loses_the_line_of_10, |text, block, run_in, cycle| {
+    let number = answers::read_answer(text, block, run_in, cycle);
+    if number == 0 && block[2] == 10 {
+        block[12..16].fill(0);
+    }
+    number
+});
+
+fault!(
     lets_a_cost_beside_a_refusal_through,
     |text, block, run_in, cycle| {
         let_through(text, block, run_in, cycle, |answer| {
@@ -466,6 +509,9 @@ macro_rules! off_by_one {
 }
 
 off_by_one!(reads_7_as_an_answer, "answer", 7, 6);
+off_by_one!(reads_9_as_an_answer, "answer", 9, 10);
+off_by_one!(reads_11_as_an_answer, "answer", 11, 10);
+off_by_one!(refuses_10_as_an_answer, "answer", 10, 11);
 off_by_one!(reads_a_line_of_65536, "line", 65_536, 65_535);
 off_by_one!(refuses_a_line_of_65535, "line", 65_535, 65_536);
 off_by_one!(reads_a_cost_of_32000001, "cost", 32_000_001, 32_000_000);

@@ -3,11 +3,11 @@
 //!     compare [--seconds S] [--first CASE] [--cases COUNT] [--bare] [--trace]
 //!     compare --transcript COUNT [--first CASE]
 //!
-//! First come the figures of 01, plans with rules that only watch whose answers
-//! were worked out by hand, where upcoming places begin for some hundred
-//! thousand lengths and steps, files with buffers of every length about the
-//! limits, two plans harmed in every way of some kinds, tours to check, and
-//! texts to read as answers; then cases in the order of their numbers, from
+//! First come the figures of 01, plans with rules that only watch and plans with
+//! roads that are written twice whose answers were worked out by hand, where
+//! upcoming places begin for some hundred thousand lengths and steps, files with
+//! buffers of every length about the limits, two plans harmed in every way of
+//! some kinds, tours to check, and texts to read as answers; then cases in the order of their numbers, from
 //! CASE (0 if not given) on, until S seconds (20) have passed or COUNT cases
 //! are done. A case is a plan, tours to check beside it and a batch of texts to
 //! read, the same on every run. With --bare nothing lies about the plan and the
@@ -29,9 +29,10 @@ use reference::cases::{case, harmed_cases, limit_cases, Case};
 use reference::checker::BLOCK_BYTES;
 use reference::checking::{
     check_beside_harm, check_blocks, check_by_hand, check_chance_tours, check_drawn,
-    check_every_list,
+    check_every_list, check_fixed_copy,
 };
 use reference::figures::figures;
+use reference::fixed_copies::fixed_copies;
 use reference::harness::{check, check_figure, check_limits, check_once};
 use reference::library::{Library, LIBRARY, NAME};
 use reference::reading::{check_chance_text, check_text, check_text_blocks, check_text_buffers};
@@ -95,6 +96,12 @@ fn main() {
         let name = format!("figure {} of {paper}", figure.name);
         options.put(&name, Some(("plan", &figure.file)), || {
             check_figure(LIBRARY, &figure)
+        });
+    }
+    for fixed in fixed_copies() {
+        let name = format!("figure {} of note 6", fixed.figure.name);
+        options.put(&name, Some(("plan", &fixed.figure.file)), || {
+            check_fixed_copy(LIBRARY, &fixed)
         });
     }
     for case in limit_cases() {
