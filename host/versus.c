@@ -13,7 +13,7 @@ typedef uint32_t planner(const uint8_t *plan, size_t plan_len, uint8_t *answer,
                          uint8_t *loop, size_t loop_len);
 planner old_plan_tour, new_plan_tour;
 
-#define ROUNDS 2000
+#define ROUNDS 20000
 
 static uint8_t plan[PLANTOUR_PLAN_BYTES + 1];
 static uint8_t runin[PLANTOUR_RUNIN_BYTES], loop[PLANTOUR_LOOP_BYTES];

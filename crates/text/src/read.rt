@@ -1,7 +1,6 @@
 //! Readers of a text: keys, decimal numbers and line numbers.
 ghost use mathlib.Core.Path.{_≡_};
 ghost use Prim.Native.Nat.{_+_, _-_, _*_, _≤_, _<_, min};
-ghost use lib.ListN.{length};
 ghost use Rattle.text.specs.Scan.{isDigit, canonical, keyAt, numberAt, nextNumber, elseNumber, either, valueOf, cap, newline, lineAt};
 
 // A number with the index just past it, or no number of good form there.
@@ -10,21 +9,17 @@ pub enum Number {
     Bad,
 }
 
-// How many bytes stand at index `at` and behind it.
-fn left(s: &[u8], at: usize) -> usize
-    ensures { λ r. ⌜ r ≡ length (now (s .entry)) - at ⌝ }
-{
-    if s.len() < at {
-        return 0;
-    }
-    s.len() - at
-}
-
 // The key, if it stands at index `at`, taken as a number: only the index just past it is ever used.
 pub fn key_at(s: &[u8], at: usize, key: &[u8]) -> Number
     ensures { λ r. ⌜ r ≡ keyAt (now (s .entry)) at (now (key .entry)) ⌝ }
 {
-    if left(s, at) < key.len() {
+    if key.len() == 0 {
+        return Number::Value(0, at);
+    }
+    if s.len() < key.len() {
+        return Number::Bad;
+    }
+    if s.len() - key.len() < at {
         return Number::Bad;
     }
     let mut j = 0;

@@ -1,5 +1,5 @@
--- `key_at` meets its contract. A text that is shorter than the key does not begin with it. Else the loop keeps that the text begins with the key
--- where the rest of the text begins with the rest of the key; each return is one case of `startsWith`.
+-- `key_at` meets its contract. Every text begins with an empty key, and one that is shorter than the key does not begin with it. Else the loop keeps
+-- that the text begins with the key where the rest of the text begins with the rest of the key; each return is one case of `startsWith`.
 use mathlib.Core.Path.{_≡_, refl, sym, ap, _∙_}
 use mathlib.Core.List.{List, [], _∷_}
 use mathlib.Core.Bool.{Bool, true, false, cond}
@@ -51,7 +51,7 @@ module _ (s : List ℕ) (at : ℕ) (key : List ℕ) where
 
 record Matched (s : List ℕ) (at : ℕ) (key : List ℕ) (j : ℕ) : Type 0 where
   pub within : j ≤ length key
-  pub room : length key ≤ length s - at
+  pub room : at + length key ≤ length s
   -- what is left to compare decides
   pub same : startsWith key (drop at s) ≡ startsWith (drop j key) (drop (at + j) s)
 
@@ -63,9 +63,9 @@ abbrev μ-loop : tie.MeasureT-loop
 
 -- where the function starts, and where a turn knows its index
 abbrev entered : tie.At-loop Inv-loop μ-loop → tie.Start Inv-loop μ-loop
-entered l = l .before .before .before .before .before
+entered l = l .before .before .before .before
 
-abbrev turn : tie.After-shared-slice-known4 Inv-loop μ-loop → tie.In-loop Inv-loop μ-loop
+abbrev turn : tie.After-shared-slice-known2 Inv-loop μ-loop → tie.In-loop Inv-loop μ-loop
 turn c = c .before .before
 
 -- a byte of the key has one of the text beside it
@@ -74,29 +74,40 @@ beside c = omega (arith, c .before .loop .inv .room, c .loop-test .taken)
 
 returns : tie.Need-returns Inv-loop μ-loop
 returns c =
-    let a = c .before .before .before .before .args in
-    other-key _ _ _ (shorter (a .key .now) (drop (a .at) (a .s .now)) (omega (arith, length-drop (a .at) (a .s .now), c .before .left .ensures, c .if1 .taken)))
-
-loop-holds : tie.Need-loop-holds Inv-loop μ-loop
-loop-holds c =
-    let a = c .before .before .before .before .args in
-    let e : a .at ≡ a .at + 0 = omega arith in
-    record {
-      within = omega arith;
-      room = omega (arith, c .before .left .ensures, c .if1 .left);
-      same = ap (λ i. startsWith (a .key .now) (drop i (a .s .now))) e;
-    }
-
-add-if2 : tie.Need-add-if2 Inv-loop μ-loop
-add-if2 c = search (needs, beside c)
-
-shared-slice-read-if2 : tie.Need-shared-slice-read-if2 Inv-loop μ-loop
-shared-slice-read-if2 c = search (needs, beside (c .before))
+    let a = c .before .args in
+    key-read _ _ _ (passed (a .s .now) (a .key .now) (a .at) 0 (omega (arith, c .if1 .taken))) _ (omega (arith, c .if1 .taken))
 
 returns-2 : tie.Need-returns-2 Inv-loop μ-loop
 returns-2 c =
+    let a = c .before .before .args in
+    other-key _ _ _ (shorter (a .key .now) (drop (a .at) (a .s .now)) (omega (arith, length-drop (a .at) (a .s .now), c .if2 .taken)))
+
+returns-3 : tie.Need-returns-3 Inv-loop μ-loop
+returns-3 c =
+    let e = c .before in let f = e .before in let a = f .before .args in
+    other-key _ _ _ (shorter (a .key .now) (drop (a .at) (a .s .now))
+    (omega (arith, length-drop (a .at) (a .s .now), f .if1 .left, e .if2 .left, c .if3 .taken)))
+
+loop-holds : tie.Need-loop-holds Inv-loop μ-loop
+loop-holds c =
+    let e = c .before in let a = e .before .before .args in
+    let z : a .at ≡ a .at + 0 = omega arith in
+    record {
+      within = omega arith;
+      room = omega (arith, e .if2 .left, c .if3 .left);
+      same = ap (λ i. startsWith (a .key .now) (drop i (a .s .now))) z;
+    }
+
+add-if4 : tie.Need-add-if4 Inv-loop μ-loop
+add-if4 c = search (needs, beside c)
+
+shared-slice-read-if4 : tie.Need-shared-slice-read-if4 Inv-loop μ-loop
+shared-slice-read-if4 c = search (needs, beside (c .before))
+
+returns-4 : tie.Need-returns-4 Inv-loop μ-loop
+returns-4 c =
     let u = turn (c .before) in let l = u .before .loop in let a = entered (u .before) .args in
-    other-key _ _ _ (l .inv .same ∙ differs _ _ (a .at + l .j) (l .j) (u .loop-test .taken) (beside u) (c .if2 .taken))
+    other-key _ _ _ (l .inv .same ∙ differs _ _ (a .at + l .j) (l .j) (u .loop-test .taken) (beside u) (c .if4 .taken))
 
 loop-again : tie.Need-loop-again Inv-loop μ-loop
 loop-again c =
@@ -106,15 +117,15 @@ loop-again c =
       within = omega arith;
       room = l .inv .room;
       same =
-          l .inv .same ∙ agrees _ _ (a .at + l .j) (l .j) (u .loop-test .taken) (beside u) (c .if2 .left)
+          l .inv .same ∙ agrees _ _ (a .at + l .j) (l .j) (u .loop-test .taken) (beside u) (c .if4 .left)
           ∙ ap (λ i. startsWith (drop (l .j + 1) (a .key .now)) (drop i (a .s .now))) e;
     }
 
-add-t6 : tie.Need-add-t6 Inv-loop μ-loop
-add-t6 c = search (needs, c .before .loop .inv .room)
+add-t7 : tie.Need-add-t7 Inv-loop μ-loop
+add-t7 c = search (needs, c .before .loop .inv .room)
 
-returns-3 : tie.Need-returns-3 Inv-loop μ-loop
-returns-3 c =
+returns-5 : tie.Need-returns-5 Inv-loop μ-loop
+returns-5 c =
     let l = c .before .loop in let a = entered (c .before) .args in
     key-read _ _ _ (l .inv .same ∙ passed _ _ (a .at + l .j) (l .j) (c .loop-test .left)) _ refl
 
@@ -124,15 +135,17 @@ key-at-spec =
     (tie.spec
     Inv-loop
     μ-loop
-    (λ c κs. search needs)
     returns
-    loop-holds
-    add-if2
-    shared-slice-read-if2
-    (λ c. search needs)
     returns-2
+    (λ c. search needs)
+    returns-3
+    loop-holds
+    add-if4
+    shared-slice-read-if4
+    (λ c. search needs)
+    returns-4
     (λ c. search needs)
     (λ c. search needs)
     loop-again
-    add-t6
-    returns-3)
+    add-t7
+    returns-5)
