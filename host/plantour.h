@@ -326,8 +326,9 @@ static inline uint64_t plantour_reply_loop_length(const uint8_t *reply) {
 ** Of several causes the first in this order counts: PLANTOUR_BLOCK (check_len
 ** is below PLANTOUR_CHECK_BYTES); PLANTOUR_LONG; the first faulty line of the
 ** plan, on the same line PLANTOUR_FORM before PLANTOUR_RANGE before
-** PLANTOUR_DOUBLED; PLANTOUR_LARGE; PLANTOUR_BROKEN.  A tour that the hard rule does not accept is no refusal:
-** PLANTOUR_OK is returned, byte 2 is 0, and cost and kept are those of the tour.
+** PLANTOUR_DOUBLED; PLANTOUR_LARGE; PLANTOUR_BROKEN.  A tour that the hard rule
+** does not accept is no refusal: PLANTOUR_OK is returned, byte 2 is 0, and cost
+** and kept are those of the tour.
 **
 ** PLANTOUR_BROKEN means that the two lists are no tour of this plan.  Places are
 ** counted from 0, through the run-in and on through the loop, and the block has
