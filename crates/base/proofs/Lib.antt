@@ -3,3 +3,4 @@ pub mod Tests
 pub mod Bits
 pub mod Members
 pub mod Least
+pub mod Marks

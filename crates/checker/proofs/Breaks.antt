@@ -13,22 +13,16 @@ use lib.ListN.{length, getD}
 use lib.Dec.{eqb}
 use Rattle.automata.specs.Acceptance.{lassoAt}
 use Rattle.base.specs.Least.{nowhere}
-use Rattle.plan.specs.Tour.{joins, isRoad, roadCount, IsLasso}
+use Rattle.plan.specs.Tour.{joins, IsLasso}
 use Rattle.plan.specs.WellFormed.{WellFormed}
 use Rattle.plan.specs.declared.Plan.{Plan}
+use Rattle.plan.proofs.Joins.{joins-to}
 use Rattle.base.proofs.Tests.{and-intro, and-right, any-elim}
 use Rattle.checker.specs.Break.{drawn, firstBreak}
 use Rattle.checker.specs.Passing.{passes, Passed, closing, closes, Verdict, stops, ends, whole}
 use Rattle.checker.proofs.Drawn.{drawn-length, drawn-stem, drawn-loop, lasso-drawn, lasso-again}
 use Rattle.checker.proofs.Passing.{passes-first, passes-next, passes-known, passes-start, passes-road, closes-filled, closes-road}
 use Rattle.checker.proofs.Passing.{judged, verdict}
-
--- a road leads to a place of the plan
-joins-known : (p : Plan) (u v : ℕ) → WellFormed p → joins p u v ≡ true → v < p .places
-unfolding joins
-joins-known p u v w h =
-    let r = any-elim (isRoad p u v) (roadCount p) h in
-    omega (arith, w .to (r .0), eqb-true (getD (p .to) (r .0) 0) v (and-right (eqb (getD (p .from) (r .0) 0) u) _ (r .2)))
 
 module _ (p : Plan) (stem cycle : List ℕ) where
   whole-passed : firstBreak p stem cycle ≡ nowhere → Passed p (drawn stem cycle) (length (drawn stem cycle)) × (closes p cycle ≡ true)
@@ -96,7 +90,7 @@ module _ (p : Plan) (stem cycle : List ℕ) where
       passed (suc k) h =
           let r = sym (road-inside k h) ∙ l .roads k (omega (arith, drawn-length stem cycle)) in
           passes-next p (drawn stem cycle) (suc k) (omega arith)
-          ∙ and-intro (lt-ltb (getD (drawn stem cycle) (suc k) 0) (p .places) (joins-known p _ _ w r)) r
+          ∙ and-intro (lt-ltb (getD (drawn stem cycle) (suc k) 0) (p .places) (joins-to p w _ _ r)) r
 
       closed : closes p cycle ≡ true
       closed =

@@ -1,24 +1,16 @@
--- The table of roads, as the checker fills it: entry u * 128 + v is 1 where a road leads from place u to place v, and row 128 has the start.
---   road from to i         == the entry of road i, which leads from place i of the list `from` to place i of `to`
---   marked from to n table == the table once the entries of the first n roads are 1
---   roadTable p table      == the table once those of all roads of p are, and the start's
---   Blank table            == the table has room for all rows, and nothing stands in it
+-- The table of roads, as the checker fills it: that of the plan's roads, and row 128 with the start.
+--   roadTable p table == the table once the roads of p are put in, and the start
+--   Blank table       == the table has room for all rows, and nothing stands in it
 use mathlib.Core.Path.{_≡_}
 use mathlib.Core.List.{List}
-use Prim.Native.Nat.{ℕ, zero, suc, _+_, _*_, _≤_}
+use Prim.Native.Nat.{ℕ, _+_, _*_, _≤_}
 use lib.ListN.{length, getD, set}
 use Rattle.plan.specs.declared.Plan.{Plan}
+use Rattle.roadmap.specs.Chart.{charted}
 use Rattle.checker.specs.Drive.{before}
 
-abbrev pub road : List ℕ → List ℕ → ℕ → ℕ
-road from to i = getD from i 0 * 128 + getD to i 0
-
-unfoldable pub marked : List ℕ → List ℕ → ℕ → List ℕ → List ℕ
-marked from to zero table = table
-marked from to (suc n) table = set (marked from to n table) (road from to n) 1
-
 abbrev pub roadTable : Plan → List ℕ → List ℕ
-roadTable p table = set (marked (p .from) (p .to) (p .roads) table) (before * 128 + p .start) 1
+roadTable p table = set (charted p 0 table) (before * 128 + p .start) 1
 
 pub record Blank (table : List ℕ) : Type 0 where
   pub room : 16512 ≤ length table

@@ -7,7 +7,7 @@ ghost use Rattle.automata.specs.WellFormed.{Below};
 ghost use Rattle.plan.specs.WellFormed.{WellFormed};
 ghost use Rattle.checker.specs.Break.{firstBreak};
 ghost use Rattle.checker.specs.Drive.{before, onTable, priorOf, Stopped, Charted, unlinked};
-ghost use Rattle.checker.specs.Roads.{marked, Blank};
+ghost use Rattle.checker.specs.Roads.{Blank};
 ghost use Rattle.checker.specs.Outcome.{breakOf};
 
 // Where a tour breaks first, if it does; an index that 64 bits cannot hold is given as the greatest that they hold.
@@ -19,28 +19,12 @@ pub enum Break {
 // The row of the table that stands for the time before the tour: its one road leads to the start.
 const BEFORE: usize = 128;
 
-// Marks the roads: byte u * 128 + v is 1 if a road leads from place u to place v.
-fn mark_roads(from: &[u8; 1024], to: &[u8; 1024], count: usize, roads: &mut [u8])
-    requires { ⌜ (length (now roads) ≡ 16512) × (count ≤ 1024) × Below 128 (now from) × Below 128 (now to) ⌝ }
-    ensures { λ _. ⌜ now (roads .exit) ≡ marked (now (from .entry)) (now (to .entry)) count (now (roads .entry)) ⌝ }
-{
-    let mut i = 0;
-    while i < count {
-        let u = from[i] as usize;
-        let v = to[i] as usize;
-        roads[u * 128 + v] = 1;
-        i += 1;
-    }
-}
-
 // The table of the plan's roads.
 fn chart(p: Plan, roads: &mut [u8])
     requires { ⌜ WellFormed p × Blank (now roads) × (length (now roads) ≡ 16512) ⌝ }
     ensures { λ _. ⌜ Charted p (now (roads .exit)) ⌝ }
 {
-    let from = p.from;
-    let to = p.to;
-    mark_roads(&from, &to, p.roads as usize, roads);
+    roadmap::chart(p, 0, roads);
     roads[BEFORE * 128 + p.start as usize] = 1;
 }
 

@@ -3,6 +3,7 @@ pub mod Products
 pub mod Sums
 pub mod Ties
 pub mod Keys
+pub mod Joins
 pub mod Tours
 pub mod Repeats
 pub mod Charging

@@ -11,16 +11,16 @@ use Prim.Native.Nat.{ℕ, suc, _+_, _-_, _%_, _≤_, _<_}
 use native.Mathlib.Nat.{mod-eq-of-lt, add-sub-cancel-left}
 use native.Mathlib.Omega.{arith}
 use lib.ListN.{length, getD}
-use borrow.Author.Tests.{eqb-true}
 use Rattle.text.specs.List.{under}
 use Rattle.text.proofs.Lists.{under-intro}
 use Rattle.automata.specs.Acceptance.{lassoAt}
-use Rattle.base.proofs.Tests.{false-not-true, any-elim, and-left}
+use Rattle.base.proofs.Tests.{false-not-true}
 use Rattle.automata.proofs.Lassos.{lasso-stem, lasso-cycle}
 use Rattle.plan.specs.WellFormed.{WellFormed}
-use Rattle.plan.specs.Tour.{IsLasso, Hard, roadCount, isRoad, joins}
+use Rattle.plan.specs.Tour.{IsLasso, Hard, joins}
 use Rattle.plan.specs.Cost.{KeptIs, Better, Best}
 use Rattle.plan.specs.declared.Plan.{Plan}
+use Rattle.plan.proofs.Joins.{joins-from}
 
 module _ (p : Plan) where
   pub best-kept : (k : ℕ) → Best p k → (stem cycle : List ℕ) → IsLasso p stem cycle → Hard p stem cycle → (k′ : ℕ) → KeptIs p stem cycle k′ → (k ≡ k′) ⊎ Better p k k′
@@ -38,15 +38,9 @@ module _ (p : Plan) where
 
 -- every place of a tour is left by a road, and roads lead from places of the plan
 module _ (p : Plan) (ok : WellFormed p) where
-  road-from : (u v : ℕ) → joins p u v ≡ true → u < p .places
-  unfolding joins
-  road-from u v h =
-      let r = any-elim (isRoad p u v) (roadCount p) h in
-      omega (arith, ok .from (r .0), eqb-true (getD (p .from) (r .0) 0) u (and-left _ _ (r .2)))
-
   module _ (stem cycle : List ℕ) (lasso : IsLasso p stem cycle) where
     step-under : (t : ℕ) → t < length stem + length cycle → lassoAt stem cycle t < p .places
-    step-under t h = road-from (lassoAt stem cycle t) (lassoAt stem cycle (suc t)) (lasso .roads t h)
+    step-under t h = joins-from p ok (lassoAt stem cycle t) (lassoAt stem cycle (suc t)) (lasso .roads t h)
 
     pub stem-under : under (p .places) stem ≡ true
     stem-under = under-intro (p .places) stem (λ i h. rw (lasso-stem stem cycle i h) at (step-under i (omega arith)))

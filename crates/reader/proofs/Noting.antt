@@ -6,7 +6,7 @@
 --   noted-after  == so it is behind a line that was read without a fault
 --   road-by      == so what is noted is as good a test of a road line as the definition's
 use mathlib.Core.Path.{_≡_, refl, sym, ap, subst, _∙_}
-use mathlib.Core.Bool.{Bool, true, false, _&&_, _||_}
+use mathlib.Core.Bool.{Bool, true, false, _&&_, _||_, or-false}
 use mathlib.Core.List.{List, [], _∷_}
 use Prim.Native.Nat.{ℕ, zero, suc, _+_, _/_, _%_, _^_, _≤_, _<_}
 use native.Mathlib.Decide.{ℕ-discrete}
@@ -21,7 +21,7 @@ use Rattle.base.specs.Below.{anyBelow}
 use Rattle.base.specs.Bits.{hasBit}
 use Rattle.base.proofs.Bits.{bit-zero}
 use Rattle.base.proofs.Members.{has-or, members-one, or-member}
-use Rattle.base.proofs.Tests.{bool-same, and-intro, and-left, and-right, any-same, false-not-true}
+use Rattle.base.proofs.Tests.{bool-same, pair-same, any-same, false-not-true}
 use Rattle.text.specs.Scan.{keyAt, nextNumber, valueOf}
 use Rattle.text.specs.Line.{pair, closed, good, numbersOf}
 use Rattle.text.specs.declared.read.Number.{Number}
@@ -36,25 +36,6 @@ use Rattle.reader.proofs.Lines.{fits-both}
 use Rattle.reader.proofs.Columns.{zeros-rest}
 use Rattle.reader.proofs.Faultless.{Faulty, faulty, was-good}
 use Rattle.reader.proofs.Steps.{roadsIn}
-
-or-false : (a : Bool) → (a || false) ≡ a
-or-false true = refl
-or-false false = refl
-
--- two pairs are one where their numbers are
-pair-same : (a b x y : ℕ) → b < 128 → y < 128 → eqb (pairOf a b) (pairOf x y) ≡ eqb a x && eqb b y
-pair-same a b x y hb hy = bool-same _ _ there back
-  where
-    there : eqb (pairOf a b) (pairOf x y) ≡ true → eqb a x && eqb b y ≡ true
-    there h =
-        let e = eqb-true (pairOf a b) (pairOf x y) h in
-        and-intro (eq-eqb a x (omega arith)) (eq-eqb b y (omega arith))
-
-    back : eqb a x && eqb b y ≡ true → eqb (pairOf a b) (pairOf x y) ≡ true
-    back h =
-        let e = eqb-true a x (and-left (eqb a x) (eqb b y) h) in
-        let f = eqb-true b y (and-right (eqb a x) (eqb b y) h) in
-        eq-eqb (pairOf a b) (pairOf x y) (omega arith)
 
 -- one bit more in a list of words
 bit-put : (words : List ℕ) (i k : ℕ) → i / 32 < length words
