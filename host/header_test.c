@@ -260,6 +260,39 @@ static void reads_the_answer_of_a_doubled_road(void) {
   assert(plantour_reply_fault(reply) == 1 && plantour_reply_answer(reply) == 0);
 }
 
+/*
+** Two places, a road from the first to the second, which no road leaves.  The
+** hard rule wants the second one's mark again and again: the car parks there.
+*/
+static const char parked[] =
+  "tour=1\nmarks=1\nplaces=2\nlabel=0\nlabel=1\nstart=0\nroads=1\nroad=0,1\n"
+  "hard=2\nfirst=0\naccept=2\nmoves=4\n"
+  "move=0,1,0,1\nmove=0,0,1,0\nmove=1,1,0,1\nmove=1,0,1,0\nrules=0\n";
+
+static void parks_at_a_dead_end(void) {
+  uint8_t answer[PLANTOUR_ANSWER_BYTES], check[PLANTOUR_CHECK_BYTES];
+  uint8_t runin[4], loop[8];
+  const uint8_t *bytes = (const uint8_t *)parked;
+  size_t length = sizeof parked - 1;
+  assert(plan_tour(bytes, length, answer, 16, runin, 4, loop, 8) == PLANTOUR_OK);
+  size_t before = plantour_runin_length(answer), turn = plantour_loop_length(answer);
+  assert(before >= 1 && turn >= 1 && runin[0] == 0);
+  for (size_t i = 1; i < before; i++) assert(runin[i] == 1);
+  for (size_t i = 0; i < turn; i++) assert(loop[i] == 1);
+  assert(check_tour(bytes, length, runin, before, loop, turn, check, 24) == PLANTOUR_OK);
+  assert(plantour_check_accepts(check));
+  /* In the run-in too; but not where a road leads on, nor at no place. */
+  const uint8_t stays[] = {0, 1, 1, 1}, early[] = {0, 0, 1}, none[] = {0, 1, 2, 2};
+  assert(check_tour(bytes, length, stays, 3, stays + 3, 1, check, 24) == PLANTOUR_OK);
+  assert(plantour_check_accepts(check));
+  assert(check_tour(bytes, length, early, 2, early + 2, 1, check, 24) == PLANTOUR_BROKEN);
+  assert(plantour_check_index(check) == 1);
+  assert(check_tour(bytes, length, early, 0, early, 1, check, 24) == PLANTOUR_BROKEN);
+  assert(plantour_check_index(check) == 1);
+  assert(check_tour(bytes, length, none, 3, none + 3, 1, check, 24) == PLANTOUR_BROKEN);
+  assert(plantour_check_index(check) == 2);
+}
+
 int main(void) {
   decodes_the_block();
   decodes_the_reply();
@@ -272,5 +305,6 @@ int main(void) {
   checks_a_tour();
   refuses_a_doubled_road();
   reads_the_answer_of_a_doubled_road();
+  parks_at_a_dead_end();
   return 0;
 }

@@ -51,6 +51,10 @@
 ** A road that is on two lines is almost always a slip for its return road, B,A,
 ** so such a plan is turned away.  A move that is on two lines changes nothing.
 **
+** A place that no road leaves leads to itself: a car that comes there parks, and
+** stands on a tour again and again.  A place that a road leaves, be it to itself,
+** is left by its roads alone: to stay there without one is no tour.
+**
 ** A rule of weight 0 only watches: it costs nothing, its kept bit is exact, and
 ** between tours of equal cost it counts in the tie as any other.  As the last
 ** rule it changes neither the cost nor which other rules are kept.
@@ -336,7 +340,8 @@ static inline uint64_t plantour_reply_loop_length(const uint8_t *reply) {
 **
 **   - of a place that is none of the plan's, its own;
 **   - of a first place that is not the start, 0;
-**   - of a place to which no road leads from the one before, its own;
+**   - of a place to which no road leads from the one before, its own (to stay
+**     at a place that no road leaves is as good as a road);
 **   - of an empty loop, the number of places in the run-in;
 **   - of a loop without a road from its last place to its first, the number of
 **     places in both lists.

@@ -1,4 +1,4 @@
-"""Plans as the tools that write stored cases have them (paper 01, "The plan file"; 02, notes 1 and 6): automata, plan files, tours and frames.
+"""Plans as the tools that write stored cases have them (paper 01, "The plan file"; 02, notes 1, 4, 5, 6 and 7): automata, plan files, tours and frames.
 
 A plan is a dict: marks, labels, start, roads, the hard automaton, and the soft rules as pairs of automaton and weight."""
 import os
@@ -22,9 +22,24 @@ def never(m):
     return Automaton(1, 0, 1, [(0, 0, 1 << m, 0)])
 
 
+def met(m):
+    """At least once a label that has this mark."""
+    return Automaton(2, 0, 2, [(0, 1 << m, 0, 1), (0, 0, 1 << m, 0), (1, 0, 0, 1)])
+
+
+def settles(m):
+    """From some step on only labels that have this mark; which step that is, the automaton may choose."""
+    return Automaton(2, 0, 2, [(0, 0, 0, 0), (0, 1 << m, 0, 1), (1, 1 << m, 0, 1)])
+
+
 def plan(marks=2, labels=(0, 1, 2), start=0, roads=((0, 1), (1, 0), (0, 2), (2, 0)), hard=ALWAYS, soft=((again(0), 3), (never(1), 2))):
     """A plan; without arguments, paper 01's plan X."""
     return dict(marks=marks, labels=labels, start=start, roads=roads, hard=hard, soft=soft)
+
+
+def row():
+    """128 places in a row, of which only the last parks; the hard rule wants the mark that it has, for good."""
+    return plan(1, [0] * 127 + [1], 0, [(v, v + 1) for v in range(127)], settles(0), ((again(0), 2), (never(0), 1)))
 
 
 def lines(p):
@@ -89,6 +104,12 @@ def soft_steps(automaton, label, q):
     return steps(automaton, label, q) or {automaton.states}
 
 
+def leads_to(p, place):
+    """The places that a place leads to (02, note 7): the ends of its roads, in the plan's order. A place that no road leaves parks: it
+    leads to itself. A number that is no place leads nowhere."""
+    return [b for a, b in p["roads"] if a == place] or [place] * (place < len(p["labels"]))
+
+
 def size(p):
     n = len(p["labels"]) * p["hard"].states
     for a, _ in p["soft"]:
@@ -138,14 +159,14 @@ def accepts(a, ditch, runin, loop):
 
 
 def breaks(p, runin, loop):
-    """The indices that break a tour (02, note 4)."""
+    """The indices that break a tour (02, notes 4 and 7)."""
     places, total = runin + loop, len(runin) + len(loop)
     for i, v in enumerate(places):
-        if v >= len(p["labels"]) or (v != p["start"] if i == 0 else (places[i - 1], v) not in p["roads"]):
+        if v >= len(p["labels"]) or (v != p["start"] if i == 0 else v not in leads_to(p, places[i - 1])):
             yield i
     if not loop:
         yield len(runin)
-    elif (loop[-1], loop[0]) not in p["roads"]:
+    elif loop[0] not in leads_to(p, loop[-1]):
         yield total
 
 
@@ -167,16 +188,44 @@ def walk(p, rng, most):
     """A closed walk of the plan as run-in and loop, if chance finds one."""
     places, at = [p["start"]], {p["start"]: [0]}
     for i in range(1, most):
-        onward = [b for a, b in p["roads"] if a == places[-1]]
-        if not onward:
-            return None
-        v = rng.choice(onward)
+        v = rng.choice(leads_to(p, places[-1]))
         if v in at and rng.random() < 0.3:
             k = rng.choice(at[v])
             return places[:k], places[k:]
         places.append(v)
         at.setdefault(v, []).append(i)
     return None
+
+
+def parkings():
+    """Tours of plans with places that no road leaves (02, note 7), each with its plan: those that park rightly, and those that break."""
+    x = plan(roads=((0, 1), (1, 0), (1, 2)))
+    # At place 2, which no road leaves: in the loop, in the run-in too, and several times.
+    for runin, loop in ([0, 1], [2]), ([0, 1, 2], [2]), ([0, 1, 2, 2, 2], [2, 2, 2]):
+        yield x, runin, loop
+    # What the hard rule wants, and another drive.
+    for runin, loop in ([0, 1], [2]), ([0], [1, 0]):
+        yield plan(roads=x["roads"], hard=settles(1), soft=((met(0), 3), (again(0), 2))), runin, loop
+    # At a place that a road leaves: in the run-in, between run-in and loop, inside the loop, and where the loop closes.
+    for runin, loop in ([0, 0, 1], [2]), ([0, 1, 1], [2]), ([0, 1], [1, 2]), ([0], [1, 1, 0]), ([0], [1]), ([], [0, 1, 0]):
+        yield x, runin, loop
+    # On from place 2 to another, by a road that is not there.
+    for runin, loop in ([0, 1, 2, 0], [1, 2]), ([0, 1, 2, 2], [1, 2]), ([0, 1], [2, 2, 0]), ([0, 1], [2, 1]), ([], [0, 1, 2]):
+        yield x, runin, loop
+    # A number that is no place, twice and more.
+    for v in 3, 128, 255:
+        for runin, loop in ([0, 1, v], [v]), ([0, 1, 2], [2, v, v]), ([v], [v]):
+            yield x, runin, loop
+    # The start parks, though roads lead to it; no place has a road; the start has a road to itself alone.
+    for runin, loop in ([], [2]), ([2], [2, 2]), ([], [2, 1]), ([2, 2], [1, 2]), ([], [0]), ([2], []):
+        yield plan(roads=x["roads"], start=2), runin, loop
+    for runin, loop in ([], [0]), ([0, 0], [0, 0, 0]), ([0], [1]), ([], [0, 1]), ([], [1]), ([0, 3], [3]), ([0, 0], []), ([], []):
+        yield plan(roads=()), runin, loop
+    for runin, loop in ([], [0]), ([0, 0], [0, 0]), ([0], [1]), ([], [1]):
+        yield plan(roads=((0, 0),)), runin, loop
+    drive = list(range(128))
+    for runin, loop in (drive[:127], [127]), (drive + [127] * 1000, [127] * 1000), (drive[:126], [126]), (drive, [127, 128]), (drive, [128]), (drive, [127, 0]), ([], drive):
+        yield row(), runin, loop
 
 
 def framed(contents):

@@ -2,8 +2,9 @@
 --   marks-length == marking keeps the length
 --   marks-at     == an entry is 1 where some cell is it, else what it was
 --   marks-apart  == entries that are no cell stay
+--   marks-same   == cells that agree mark the same
 --   mark-next    == one turn more, as a loop has it
-use mathlib.Core.Path.{_≡_, refl, sym, _∙_}
+use mathlib.Core.Path.{_≡_, refl, sym, ap₂, _∙_}
 use mathlib.Core.Bool.{cond, _||_, or-false, or-true}
 use mathlib.Core.List.{List}
 use Prim.Native.Nat.{ℕ, zero, suc, _+_, _<_}
@@ -39,6 +40,11 @@ module _ (cell : ℕ → ℕ) where
       at (yes e) ih =
           rw (eq-eqb (cell n) i e, or-true, e) (getD-set-same (marks cell n l) i 1 0 (let z : i < length (marks cell n l) = omega (arith, marks-length n l) in z))
       at (no e) ih = rw (ne-eqb (cell n) i e, or-false) (getD-set-other (marks cell n l) (cell n) i 1 0 (λ k. e (sym k)) ∙ ih)
+
+  pub marks-same : (other : ℕ → ℕ) (n : ℕ) (l : List ℕ) → ((t : ℕ) → t < n → cell t ≡ other t) → marks cell n l ≡ marks other n l
+  unfolding marks
+  marks-same other zero l h = refl
+  marks-same other (suc n) l h = ap₂ (λ m x. set m x 1) (marks-same other n l (λ t k. h t (omega arith))) (h n (omega arith))
 
   pub mark-next : (n : ℕ) (l now next : List ℕ) (x : ℕ) → now ≡ marks cell n l → x ≡ cell n → next ≡ set now x 1 → next ≡ marks cell (n + 1) l
   unfolding marks

@@ -8,16 +8,15 @@ use mathlib.Core.List.{List}
 use Prim.Native.Nat.{ℕ, zero, suc, _+_, _-_, _<_}
 use native.Mathlib.Decide.{decLt}
 use native.Mathlib.Omega.{arith}
-use borrow.Author.Tests.{lt-ltb, eq-eqb, eqb-true}
+use borrow.Author.Tests.{lt-ltb, eq-eqb}
 use lib.ListN.{length, getD}
-use lib.Dec.{eqb}
 use Rattle.automata.specs.Acceptance.{lassoAt}
 use Rattle.base.specs.Least.{nowhere}
 use Rattle.plan.specs.Tour.{joins, IsLasso}
 use Rattle.plan.specs.WellFormed.{WellFormed}
 use Rattle.plan.specs.declared.Plan.{Plan}
 use Rattle.plan.proofs.Joins.{joins-to}
-use Rattle.base.proofs.Tests.{and-intro, and-right, any-elim}
+use Rattle.base.proofs.Tests.{and-intro}
 use Rattle.checker.specs.Break.{drawn, firstBreak}
 use Rattle.checker.specs.Passing.{passes, Passed, closing, closes, Verdict, stops, ends, whole}
 use Rattle.checker.proofs.Drawn.{drawn-length, drawn-stem, drawn-loop, lasso-drawn, lasso-again}
@@ -90,7 +89,7 @@ module _ (p : Plan) (stem cycle : List ℕ) where
       passed (suc k) h =
           let r = sym (road-inside k h) ∙ l .roads k (omega (arith, drawn-length stem cycle)) in
           passes-next p (drawn stem cycle) (suc k) (omega arith)
-          ∙ and-intro (lt-ltb (getD (drawn stem cycle) (suc k) 0) (p .places) (joins-to p w _ _ r)) r
+          ∙ and-intro (lt-ltb (getD (drawn stem cycle) (suc k) 0) (p .places) (joins-to p _ _ w r)) r
 
       closed : closes p cycle ≡ true
       closed =

@@ -10,3 +10,4 @@ pub mod Blocks
 pub mod Answering
 pub mod Worths
 pub mod Rulings
+pub mod Parking

@@ -50,7 +50,7 @@ module _ (p : Plan) (w : WellFormed p) (table : List ℕ) (blank : Blank table) 
       by (yes k) = ap (λ x. eqb x 1) (inside u v k h) ∙ is-one (joins p u v)
       by (no k) =
           ap (λ x. eqb x 1) (charted-apart p 0 w table (u * 128 + v) (λ lo hi. omega arith) ∙ blank .zeros (u * 128 + v))
-          ∙ sym (no-place p w u v (omega (arith, w .few)))
+          ∙ sym (no-place p u v w (omega (arith, w .few)))
 
   pub table-entry : (u v : ℕ) → v < 128 → eqb (getD (roadTable p table) (u * 128 + v) 0) 1 ≡ cond (eqb u before) (eqb v (p .start)) (joins p u v)
   table-entry u v h = by (ℕ-discrete u before) (ℕ-discrete v (p .start))
@@ -71,7 +71,7 @@ module _ (p : Plan) (w : WellFormed p) (table : List ℕ) (blank : Blank table) 
           (omega (arith, w .start, w .few, blank .room, charted-length p 0 table)))
           ∙ sym (rw (eq-eqb u before e) (eq-eqb v (p .start) k))
       by (yes e) (no k) =
-          elsewhere (λ z. k (omega arith)) ∙ no-place p w u v (omega (arith, w .few)) ∙ sym (rw (eq-eqb u before e) (ne-eqb v (p .start) k))
+          elsewhere (λ z. k (omega arith)) ∙ no-place p u v w (omega (arith, w .few)) ∙ sym (rw (eq-eqb u before e) (ne-eqb v (p .start) k))
       by (no e) d = elsewhere (λ z. e (omega (arith, w .start, w .few))) ∙ sym (rw (ne-eqb u before e))
 
   pub table-joins : (u v : ℕ) → u < 128 → v < 128 → eqb (getD (roadTable p table) (u * 128 + v) 0) 1 ≡ joins p u v

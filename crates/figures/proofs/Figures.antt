@@ -20,7 +20,7 @@ use Rattle.base.specs.Bits.{bit}
 use Rattle.base.proofs.Tests.{and-left, and-right, false-not-true, all-elim}
 use Rattle.plan.specs.WellFormed.{weight, WellFormed}
 use Rattle.plan.specs.Size.{size}
-use Rattle.plan.specs.Tour.{IsLasso, Hard, Soft, joins}
+use Rattle.plan.specs.Tour.{parks, IsLasso, Hard, Soft, joins}
 use Rattle.plan.specs.Cost.{keeps, KeptIs, cost, costOf, Better}
 use Rattle.plan.specs.Key.{tie, keyOf, key}
 use Rattle.plan.specs.Refusal as refused
@@ -43,13 +43,13 @@ use Rattle.optimality.proofs.Best.{lasso-drive, hard-unrolls, soft-unrolls, tou
 use Rattle.serve.specs.Upcoming.{upcomingPlaces}
 use Rattle.figures.specs.Bytes.{bytes}
 use Rattle.figures.specs.Certificate.{implies, everyOf, someOf, listed, shades, parted, walksBy}
-use Rattle.figures.specs.Claim.{Room, Numbers, tour, refusal, Answers, Turned, Dear, Tied}
-use Rattle.figures.specs.Figure.{Route, Reason, best, none, short, Figure, answers, turned, dear, tied, served, planOf, Holds}
+use Rattle.figures.specs.Claim.{Room, Numbers, tour, refusal, Answers, Turned, Repeated, Dear, Tied}
+use Rattle.figures.specs.Figure.{Route, Reason, best, none, short, Figure, answers, turned, repeats, dear, tied, served, planOf, Holds}
 use Rattle.figures.specs.Figure.{isPlan, turnedAs, allOf, alike, reasonTests, lighter, dearTests, tiedTests, same, isRead, passes}
 use Rattle.figures.specs.Cases.{figures}
 use Rattle.figures.proofs.Certificates.{mp, offered, best-by, none-by}
 use Rattle.figures.proofs.Routes.{all-nth, stem, cycle, lasso, hard, softs}
-use Rattle.figures.proofs.Answers.{turned-away, answers-tour, answers-none, answers-short}
+use Rattle.figures.proofs.Answers.{turned-away, repeated, answers-tour, answers-none, answers-short}
 
 same-sound : (xs ys : List ℕ) → same xs ys ≡ true → xs ≡ ys
 same-sound [] [] h = refl
@@ -180,6 +180,10 @@ passes-holds (answers text n room x by) h =
     let e = eqb-true (size (planOf text)) n (test 1) in
     (e, reason-holds (bytes text) room x (plan-sound _ (test 0)) (omega (arith, e, leb-true n 2048 (test 2))) by (test 3))
 passes-holds (turned text n line) h = turned-holds (bytes text) n line (readPlan (bytes text) .outcome) refl h
+passes-holds (repeats text v) h =
+    let test = all-nth (isRead text ∷ eqb (planOf text .start) v ∷ parks (planOf text) v ∷ []) h in
+    let e = eqb-true (planOf text .start) v (test 1) in
+    subst (Repeated (bytes text)) e (repeated (bytes text) (plan-sound _ (test 0)) (rw (← e) at (test 2)))
 passes-holds (dear text rule least k cs r) h =
     let test = all-nth (isRead text ∷ allOf (dearTests (planOf text) rule least k cs r) ∷ []) h in
     dear-holds (planOf text) (read-well (bytes text) (plan-sound _ (test 0))) rule least k cs r (test 1)

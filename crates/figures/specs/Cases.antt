@@ -1,7 +1,8 @@
--- The cases of 01's "Figures to check against" that are marked P, one of its "Wrong readings to shut out", and some of our own for 02's notes 5 and
--- 6, as entries of one list.
+-- The cases of 01's "Figures to check against" that are marked P, one of its "Wrong readings to shut out", and some of our own for 02's notes 5 to
+-- 7, as entries of one list.
 -- What stands behind a claim's numbers is why it holds: the nodes that the start reaches, part by part, and a route.
---   caseN, case10Short         == the cases; case 9 is three figures, one for each step
+--   caseN, case10Short         == the cases; case 9 is three figures, one for each step; case 6 is that of 02, note 7
+--   case6Parked                == and its tour is place 0 again and again
 --   heaviestLost, heaviestDear == "taking rules one by one from the heaviest": the rule of weight 3 could be kept, at a cost of 4 or
 --                                 more, but the answer keeps the two of weight 2 and costs 3
 --   watchDecides, watchTied    == case 4 keeps the first of two rules that exclude each other, at equal weights; a rule of weight 0 in front of
@@ -9,13 +10,14 @@
 --                                 and this rule is the first on which the two differ
 --   doubled                    == a doubled road is refusal 10 with the line of the later copy, behind form and range of that line; the first faulty
 --                                 line decides. Both ways of one road are no fault: plan X has them
+--   mustPark                   == a tour that the hard rule accepts has to drive to a place without a road out, and park there
 --   figures                    == the list
 use mathlib.Core.List.{List, [], _∷_}
 use Prim.Native.Nat.{ℕ}
-use Rattle.figures.specs.Plans.{planX, plan2, plan3, plan4, plan5, plan6, plan7, plan8, watched, bridge}
+use Rattle.figures.specs.Plans.{planX, plan2, plan3, plan4, plan5, plan6, plan7, plan8, watched, parkedOnIce, bridge}
 use Rattle.figures.specs.Plans.{doubledNext, doubledLater, doubledStay, doubledFar, doubledFirst, doubledBehind}
 use Rattle.figures.specs.Claim.{atLeast, exactly, tour, refusal}
-use Rattle.figures.specs.Figure.{Route, Reason, best, none, short, Figure, answers, turned, dear, tied, served}
+use Rattle.figures.specs.Figure.{Route, Reason, best, none, short, Figure, answers, turned, repeats, dear, tied, served}
 
 abbrev pub route : List ℕ → ℕ → List ℕ → Route
 route stem home cycle = record { stem = stem; home = home; cycle = cycle }
@@ -44,7 +46,10 @@ abbrev pub case5 : Figure
 case5 = answers plan5 18 (atLeast 18 72) (refusal 6) (none partsX)
 
 abbrev pub case6 : Figure
-case6 = answers plan6 18 (atLeast 18 72) (refusal 6) (none ((0 ∷ []) ∷ []))
+case6 = answers plan6 18 (atLeast 18 72) (tour 3 2 1) (best ((0 ∷ []) ∷ []) (route [] 0 (0 ∷ [])))
+
+abbrev pub case6Parked : Figure
+case6Parked = repeats plan6 0
 
 abbrev pub case7 : Figure
 case7 = answers plan7 18 (atLeast 18 72) (tour 2 1 1) (best ((0 ∷ []) ∷ (3 ∷ 4 ∷ 9 ∷ 15 ∷ []) ∷ []) (route (0 ∷ []) 9 (9 ∷ 4 ∷ [])))
@@ -78,6 +83,11 @@ watchDecides =
 abbrev pub watchTied : Figure
 watchTied = tied watched 0 5 2 (route [] 0 (0 ∷ 18 ∷ []))
 
+abbrev pub mustPark : Figure
+mustPark =
+    answers parkedOnIce 36 (atLeast 36 144) (tour 2 1 1)
+    (best ((0 ∷ []) ∷ (12 ∷ []) ∷ (1 ∷ 13 ∷ []) ∷ (25 ∷ []) ∷ (28 ∷ []) ∷ (34 ∷ []) ∷ []) (route (0 ∷ 12 ∷ 25 ∷ []) 34 (34 ∷ [])))
+
 abbrev pub doubled : List Figure
 doubled =
     turned doubledNext 10 10 ∷ turned doubledLater 10 13 ∷ turned doubledStay 10 10 ∷ turned doubledFar 3 9 ∷ turned doubledFirst 10 10
@@ -85,5 +95,5 @@ doubled =
 
 abbrev pub figures : List Figure
 figures =
-    case1 ∷ case2 ∷ case3 ∷ case4 ∷ case5 ∷ case6 ∷ case7 ∷ case8 ∷ case9 1 (6 ∷ []) ∷ case9 2 (7 ∷ 8 ∷ 9 ∷ []) ∷ case9 6 (8 ∷ 9 ∷ [])
-    ∷ case10 ∷ case10Short ∷ heaviestLost ∷ heaviestDear ∷ watchDecides ∷ watchTied ∷ doubled
+    case1 ∷ case2 ∷ case3 ∷ case4 ∷ case5 ∷ case6 ∷ case6Parked ∷ case7 ∷ case8 ∷ case9 1 (6 ∷ []) ∷ case9 2 (7 ∷ 8 ∷ 9 ∷ []) ∷ case9 6 (8 ∷ 9 ∷ [])
+    ∷ case10 ∷ case10Short ∷ heaviestLost ∷ heaviestDear ∷ watchDecides ∷ watchTied ∷ mustPark ∷ doubled

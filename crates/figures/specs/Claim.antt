@@ -8,6 +8,8 @@
 --                          returns the number of x, and the sixteen bytes that it leaves in the block say x
 --   Turned text n line  == a call on the plan file `text`, with an answer block that is long enough, returns the refusal n, and the block says n
 --                          and that line
+--   Repeated text v     == where a call on the plan file `text` returns 0, with an answer block that is long enough, the tour that it leaves is
+--                          place v again and again: run-in and loop have no other
 --   Dear p rule least   == every other soft rule of p weighs less than soft rule `rule` + 1, and some tour that the hard rule accepts
 --                          keeps it; but every such tour costs at least `least`
 --   Tied p rule k k′    == the sets k and k′ cost the same, some tour that the hard rule accepts keeps k′, and the first rule on which they
@@ -17,7 +19,7 @@ use mathlib.Core.Bool.{true, false}
 use mathlib.Core.List.{List}
 use mathlib.Core.Logic.{_≢_}
 use Prim.Native.Nat.{ℕ, _≤_, _<_}
-use lib.ListN.{length, take}
+use lib.ListN.{length, getD, take}
 use Rattle.plan.specs.WellFormed.{weight}
 use Rattle.plan.specs.Tour.{IsLasso, Hard, Soft}
 use Rattle.plan.specs.Cost.{keeps, KeptIs, cost}
@@ -61,6 +63,12 @@ abbrev pub Turned : List ℕ → ℕ → ℕ → Type 0
 Turned text n line =
     (b b′ : Buffers) (r : ℕ) → 16 ≤ length (b .block) → Promise text b b′ r
     → (r ≡ n) × (answerOf (take 16 (b′ .block)) .number ≡ n) × (answerOf (take 16 (b′ .block)) .line ≡ line)
+
+abbrev pub Repeated : List ℕ → ℕ → Type 0
+Repeated text v =
+    (b b′ : Buffers) → 16 ≤ length (b .block) → Promise text b b′ 0
+    → (0 < answerOf (take 16 (b′ .block)) .cycle) × ((i : ℕ) → i < answerOf (take 16 (b′ .block)) .stem → getD (b′ .runin) i 0 ≡ v)
+    × ((i : ℕ) → i < answerOf (take 16 (b′ .block)) .cycle → getD (b′ .loop) i 0 ≡ v)
 
 pub record Dear (p : Plan) (rule least : ℕ) : Type 0 where
   pub listed : rule < p .rules

@@ -7,6 +7,7 @@
 --   Figure                    == a claim, with what confirms it
 --     answers text n room x   == N of the plan file is n, and it is answered by x
 --     turned text n line      == it is turned away with refusal n and that line
+--     repeats text v          == a tour of it is place v again and again
 --     dear text rule least k  == keeping that rule costs at least `least`; k is the best set that has the rule
 --     tied text rule k k′     == a rule of weight 0 decides between the sets k and k′
 --     served stem cycle t part == the upcoming places at step t
@@ -26,6 +27,7 @@ use Rattle.base.specs.Bits.{bit}
 use Rattle.automata.specs.Automaton.{final}
 use Rattle.plan.specs.WellFormed.{soft, weight}
 use Rattle.plan.specs.Size.{size, roomy}
+use Rattle.plan.specs.Tour.{parks}
 use Rattle.plan.specs.Cost.{keeps, cost}
 use Rattle.plan.specs.Key.{key}
 use Rattle.plan.specs.Refusal as refused
@@ -36,7 +38,7 @@ use Rattle.reader.specs.declared.Outcome.the-variants as outcome
 use Rattle.compile.specs.Product.{startNode, hardOf, softOf}
 use Rattle.serve.specs.Upcoming.{upcomingPlaces}
 use Rattle.figures.specs.Bytes.{bytes}
-use Rattle.figures.specs.Claim.{Room, atLeast, exactly, Numbers, tour, refusal, Answers, Turned, Dear, Tied}
+use Rattle.figures.specs.Claim.{Room, atLeast, exactly, Numbers, tour, refusal, Answers, Turned, Repeated, Dear, Tied}
 use Rattle.figures.specs.Certificate.{implies, certified, walksBy}
 
 pub record Route : Type 0 where
@@ -52,6 +54,7 @@ pub data Reason : Type 0 where
 pub data Figure : Type 0 where
   answers : (text : String) (n : ℕ) (room : Room) (x : Numbers) → Reason → Figure
   turned : (text : String) (n line : ℕ) → Figure
+  repeats : (text : String) (v : ℕ) → Figure
   dear : (text : String) (rule least : ℕ) (kept : ℕ) → List (List ℕ) → Route → Figure
   tied : (text : String) (rule k k′ : ℕ) → Route → Figure
   served : (stem cycle : List ℕ) (t : ℕ) (part : List ℕ) → Figure
@@ -62,6 +65,7 @@ planOf text = readPlan (bytes text) .plan
 unfoldable pub Holds : Figure → Type 0
 Holds (answers text n room x by) = (size (planOf text) ≡ n) × Answers (bytes text) room x
 Holds (turned text n line) = Turned (bytes text) n line
+Holds (repeats text v) = Repeated (bytes text) v
 Holds (dear text rule least kept by route) = Dear (planOf text) rule least
 Holds (tied text rule k k′ route) = Tied (planOf text) rule k k′
 Holds (served stem cycle t part) = upcomingPlaces stem cycle t ≡ part
@@ -135,6 +139,7 @@ isRead text = isPlan (readPlan (bytes text) .outcome)
 unfoldable pub passes : Figure → Bool
 passes (answers text n room x by) = allOf (isRead text ∷ eqb (size (planOf text)) n ∷ leb n 2048 ∷ allOf (reasonTests (planOf text) room x by) ∷ [])
 passes (turned text n line) = turnedAs (readPlan (bytes text) .outcome) n line
+passes (repeats text v) = allOf (isRead text ∷ eqb (planOf text .start) v ∷ parks (planOf text) v ∷ [])
 passes (dear text rule least k cs r) = allOf (isRead text ∷ allOf (dearTests (planOf text) rule least k cs r) ∷ [])
 passes (tied text rule k k′ r) = allOf (isRead text ∷ allOf (tiedTests (planOf text) rule k k′ r) ∷ [])
 passes (served stem cycle t part) = same (upcomingPlaces stem cycle t) part

@@ -9,6 +9,8 @@
 --   roadsOf roads              == plan X with these lines in place of its roads
 --   doubledNext, ..            == plans with a doubled road (02, note 6): the copy right behind it; with other roads between; of a road from a place
 --                                 to itself; written twice out of range; with a fault of form behind it, and before it
+--   parkedOnIce                == plan X with other roads, of which none leaves place 2 (02, note 7); its hard rule wants mark 1 for good, its soft
+--                                 rules mark 0 at least once, and never mark 1
 --   bridge                     == `plans/bridge.plan`: a plan where the heaviest rule can be kept, and is not worth it
 use Prim.Native.String.{String, _++_}
 
@@ -85,6 +87,13 @@ doubledFirst = roadsOf "roads=3\nroad=0,1\nroad=0,1\nroad=01,0\n"
 
 abbrev pub doubledBehind : String
 doubledBehind = roadsOf "roads=3\nroad=0,1\nroad=01,0\nroad=0,1\n"
+
+abbrev pub parkedOnIce : String
+parkedOnIce =
+    mapX ++ "roads=3\nroad=0,1\nroad=1,0\nroad=1,2\n"
+    ++ "hard=2\nfirst=0\naccept=2\nmoves=3\nmove=0,0,0,0\nmove=0,2,0,1\nmove=1,2,0,1\n"
+    ++ "rules=2\nsoft=2\nweight=3\nfirst=0\naccept=2\nmoves=3\nmove=0,1,0,1\nmove=0,0,1,0\nmove=1,0,0,1\n"
+    ++ "soft=1\nweight=2\n" ++ never1
 
 abbrev pub bridge : String
 bridge =

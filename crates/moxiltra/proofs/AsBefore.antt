@@ -5,6 +5,8 @@
 --   02, note 6: a road could stand on two lines, and a file that passed and has every road once keeps them
 --     single-answered, single-checked       == what the planner answers, and the checker
 --     passed-answered, passed-checked       == the same of every file that passes now
+--   02, note 7: a place without a road out was on no tour, and a file whose places all have one keeps them
+--     left-answered, left-checked           == what the planner answers, and the checker
 use mathlib.Core.Path.{_≡_, sym, subst}
 use mathlib.Core.List.{List}
 use mathlib.Core.Logic.{_↔_}
@@ -16,9 +18,12 @@ use Rattle.reader.proofs.Singles.{Single}
 use Rattle.reader.proofs.Weights as weights
 use Rattle.reader.proofs.Doubles as doubles
 use Rattle.answer.specs.declared.Answer.{Answer}
+use Rattle.plan.proofs.Parking.{Left}
 use Rattle.planner.specs.Promise.{AnswerTo, ToldOf}
+use Rattle.planner.proofs.Parking.{ToldBefore, told-as-before}
 use Rattle.checker.specs.Check.{CheckOf, RuledOf}
 use Rattle.checker.specs.declared.Check.{Check}
+use Rattle.checker.proofs.Parking.{RuledBefore, ruled-as-before}
 
 -- what is answered to the file is what is answered to the reading r
 abbrev pub Answered : List ℕ → Reading → Type 0
@@ -57,6 +62,15 @@ module _ (file : List ℕ) where
 
     pub single-checked : Checked file before
     single-checked = checked-by _ (doubles.single-as-before file passed single)
+
+  -- of such a file the definitions of before and of now say the same
+  module _ (left : Left (readPlan file .plan)) where
+    pub left-answered : (runin loop runin′ loop′ : List ℕ) (a : Answer)
+        → AnswerTo file runin loop runin′ loop′ a ↔ ToldBefore (readPlan file .outcome) (readPlan file .plan) runin loop runin′ loop′ a
+    left-answered runin loop runin′ loop′ a = told-as-before (readPlan file .plan) left runin loop runin′ loop′ a (readPlan file .outcome)
+
+    pub left-checked : (stem cycle : List ℕ) (c : Check) → CheckOf file stem cycle c ↔ RuledBefore (readPlan file .outcome) (readPlan file .plan) stem cycle c
+    left-checked stem cycle c = ruled-as-before (readPlan file .plan) left stem cycle (readPlan file .outcome) c
 
   module _ (passes : readPlan file .outcome ≡ outcome.Plan) where
     pub passed-answered : Answered file before

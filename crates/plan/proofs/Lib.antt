@@ -5,6 +5,7 @@ pub mod Ties
 pub mod Keys
 pub mod Joins
 pub mod Tours
+pub mod Parking
 pub mod Repeats
 pub mod Charging
 pub mod Counts

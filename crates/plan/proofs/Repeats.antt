@@ -7,14 +7,14 @@
 --   alike-unchanged      == that holds of plans that are alike
 --   repetition-unchanged == and so of a plan with a move repeated
 use mathlib.Core.Path.{_≡_, sym, _∙_, transport, transport⁻¹, subst}
-use mathlib.Core.Bool.{_&&_}
+use mathlib.Core.Bool.{not, _&&_, _||_}
 use mathlib.Core.List.{List}
 use mathlib.Core.Logic.{_↔_, _⊎_}
 use Prim.Native.Nat.{ℕ, _+_, _*_, _^_, _<_, min}
 use native.Mathlib.Decide.{ℕ-discrete}
 use native.Mathlib.Omega.{arith}
 use lib.ListN.{length, getD}
-use lib.Dec.{eqb}
+use lib.Dec.{eqb, ltb}
 use Rattle.base.specs.Below.{anyBelow, productBelow}
 use Rattle.automata.specs.Acceptance.{lassoAt, HardAccepts, SoftAccepts}
 use Rattle.automata.specs.declared.Automaton.{Automaton}
@@ -61,6 +61,7 @@ module _ (p q : Plan) (a : Alike p q) where
   same-joins u v =
       let f = a .frame in
       λ i. anyBelow (min (f .roads i) 1024) (λ k. eqb (getD (f .from i) k 0) u && eqb (getD (f .to i) k 0) v)
+      || (eqb u v && (ltb u (f .places i) && not (anyBelow (min (f .roads i) 1024) (λ k. eqb (getD (f .from i) k 0) u))))
 
   same-costs : (k : ℕ) → cost p k ≡ cost q k
   same-costs k = λ i. costOf (a .frame .weights i) (a .frame .rules i) k

@@ -6,3 +6,4 @@ pub mod Verdicts
 pub mod Unique
 pub mod Bounds
 pub mod Sounds
+pub mod Parking

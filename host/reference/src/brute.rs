@@ -23,7 +23,7 @@ pub struct Search {
 pub fn all_short_tours(plan: &Plan, walks: usize, most_places: usize) -> Search {
     let mut search = Search::default();
     let mut front = vec![vec![plan.start]];
-    while !front.is_empty() && front.len() <= walks && search.places < most_places {
+    while front.len() <= walks && search.places < most_places {
         for walk in &front {
             for split in 0..walk.len() {
                 search.consider(plan, &walk[..split], &walk[split..]);
@@ -32,16 +32,14 @@ pub fn all_short_tours(plan: &Plan, walks: usize, most_places: usize) -> Search 
         search.places += 1;
         front = front.iter().flat_map(|walk| longer(plan, walk)).collect();
     }
-    if front.is_empty() {
-        search.places = usize::MAX;
-    }
     search
 }
 
+/// The walk with one place more, in every way; there is always one.
 fn longer(plan: &Plan, walk: &[u8]) -> Vec<Vec<u8>> {
     let here = walk[walk.len() - 1];
     let places = 0..plan.labels.len() as u8;
-    let ways = places.filter(|&to| plan.roads.contains(&(here, to)));
+    let ways = places.filter(|&to| plan.joined(here, to));
     ways.map(|to| [walk, &[to]].concat()).collect()
 }
 

@@ -5,9 +5,11 @@ use crate::copies::{with_copies, KINDS};
 use crate::damage::{damage, every_damage, Harmed};
 use crate::figures::{figures, soft, x};
 use crate::fixed_copies::copies_of_x;
+use crate::fixed_parking::fixed_parking;
 use crate::guards::{either, with_any, ALIKE, ALL, SAME};
 use crate::handmade::one_place;
 use crate::maps::{all_roads, chance_roads, labels, once_each, places_within};
+use crate::parking::{self, with_dead_ends};
 use crate::plan::{Automaton, Plan, MAX_PLACES, MAX_PLAN_BYTES, MAX_SIZE};
 use crate::random::Random;
 use crate::rules::{again, always, go, go_any, never, once, soft_rules, some_rule};
@@ -46,11 +48,13 @@ impl Case {
 }
 
 /// Files for buffers of every length about the limits: the figures of 01, those
-/// with rules that only watch, some with roads that are written twice, one that
-/// is too long, and the largest plans without and with eight soft rules.
+/// with rules that only watch, some with roads that are written twice, some with
+/// dead ends, one that is too long, and the largest plans without and with eight
+/// soft rules.
 pub fn limit_cases() -> Vec<Case> {
     let copies = copies_of_x().into_iter().map(|fixed| fixed.figure);
     let all = figures().into_iter().chain(hand_worked()).chain(copies);
+    let all = all.chain(fixed_parking().into_iter().step_by(7));
     let mut cases: Vec<Case> = all
         .map(|figure| Case::new(&format!("figure {}", figure.name), figure.file))
         .collect();
@@ -97,6 +101,8 @@ pub fn case(number: u64) -> (Case, Random) {
     let mut source = Random::new(number.wrapping_mul(0x5851_f42d_4c95_7f2d).wrapping_add(1));
     let random = &mut source;
     let case = match number % 16 {
+        3 => with_parking(number / 16, random),
+        2 if number % 32 == 2 => with_parking(number / 32 + 7, random),
         4 if number % 32 == 4 => intact("watching", watching(random)),
         0..=4 => intact("tiny", tiny(random)),
         5 => intact("tied", tied(random)),
@@ -118,11 +124,18 @@ pub fn case(number: u64) -> (Case, Random) {
             let plan = large(shape, size, random);
             let plan = with_any(random, plan, ALIKE);
             let plan = with_watchers(random, plan);
+            let plan = with_dead_ends(random, plan);
             Case::new(shape.name(), with_copies(random, plan))
         }
         _ => intact("oversized", oversized(random)),
     };
     (case, source)
+}
+
+/// A plan with dead ends, of all kinds in turn.
+fn with_parking(turn: u64, random: &mut Random) -> Case {
+    let kind = &parking::KINDS[turn as usize % parking::KINDS.len()];
+    intact(kind.name, kind.plan(random))
 }
 
 fn intact(kind: &str, plan: Plan) -> Case {

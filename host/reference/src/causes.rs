@@ -31,12 +31,14 @@ impl Cause {
     }
 }
 
-/// Every index that breaks the tour, each with its cause.
+/// Every index that breaks the tour, each with its cause. To park at a dead end
+/// is to have a road; to park elsewhere, or at a number that is no place, is to
+/// lack one (02, note 7).
 pub fn causes(plan: &Plan, run_in: &[u8], cycle: &[u8]) -> Vec<(u64, Cause)> {
     let mut all = Vec::new();
     let mut add = |index: usize, cause| all.push((index as u64, cause));
     let walk = [run_in, cycle].concat();
-    let missing = |from: u8, to: u8| !plan.roads.contains(&(from, to));
+    let missing = |from: u8, to: u8| !plan.joined(from, to);
     for (index, &place) in walk.iter().enumerate() {
         if place as usize >= plan.labels.len() {
             add(index, Cause::UnknownPlace);

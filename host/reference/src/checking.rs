@@ -58,11 +58,16 @@ fn one_call(
     own.agrees(&reference).map_err(told)?;
 
     tally.checked.call(own.returned, places);
+    let (run_in, cycle) = (&drawn.run_in[..], &drawn.cycle[..]);
     if let (Ok(plan), Some(worth)) = (plan, worth) {
         tally.checked.worth(plan, worth);
+        tally.parked.drawn(plan, run_in, cycle, worth.accepted);
     }
     if own.returned == 9 {
         tally.checked.causes(&due.causes);
+        if let (Ok(plan), Some(block)) = (plan, own.block()) {
+            tally.parked.broken(plan, run_in, cycle, block.index);
+        }
     }
     Ok(worth)
 }
@@ -222,6 +227,10 @@ pub fn check_chance_tours(
     if let Some(drawn) = open(&ways, &walk, random) {
         put(&drawn, random)?;
     }
+    put(&parked_nowhere(&ways, &walk, random), random)?;
+    for drawn in parked(&ways, random) {
+        put(&drawn, random)?;
+    }
     let Some(tour) = ways.closed(&walk, random) else {
         return Ok(());
     };
@@ -244,6 +253,9 @@ pub fn check_chance_tours(
         }
     }
     for other in broken(&ways, &tour, &indices(case, &tour, random), random) {
+        put(&other, random)?;
+    }
+    for other in wrongly_parked(&ways, &tour, random) {
         put(&other, random)?;
     }
     Ok(())

@@ -46,7 +46,7 @@ impl Drawn {
 }
 
 /// The kinds that a comparison should meet.
-pub const KINDS: [&str; 19] = [
+pub const KINDS: [&str; 26] = [
     OWN,
     OWN_RESPELLED,
     WALK,
@@ -66,6 +66,13 @@ pub const KINDS: [&str; 19] = [
     REFUSED,
     LONG,
     LONG_BROKEN,
+    PARKED,
+    PARKED_EARLY,
+    LEFT,
+    STAY_IN_RUN_IN,
+    STAY_IN_LOOP,
+    STAY_AS_LOOP,
+    NO_PLACE,
 ];
 pub const OWN: &str = "planner's own";
 pub const OWN_RESPELLED: &str = "planner's own respelled";
@@ -86,6 +93,13 @@ pub const UNRELATED: &str = "lists of no relation";
 pub const REFUSED: &str = "lists beside a refused plan";
 pub const LONG: &str = "long lists";
 pub const LONG_BROKEN: &str = "broken long lists";
+pub const PARKED: &str = "parked in the loop";
+pub const PARKED_EARLY: &str = "parked in the run-in and the loop";
+pub const LEFT: &str = "dead end left";
+pub const STAY_IN_RUN_IN: &str = "stay in the run-in where a road leads on";
+pub const STAY_IN_LOOP: &str = "stay in the loop where a road leads on";
+pub const STAY_AS_LOOP: &str = "stay as the loop where a road leads on";
+pub const NO_PLACE: &str = "stay at a number that is no place";
 
 /// So many places, about, have long lists.
 pub const MANY: usize = 100_000;
@@ -178,6 +192,105 @@ fn with_places(kind: &'static str, (run_in, cycle): &Lists, others: &[(usize, u8
     let cycle = walk.split_off(run_in.len());
     let known = first.map_or(Known::Tour, Known::BreaksAt);
     Drawn::new(kind, (walk, cycle), known)
+}
+
+/// Tours that park at a dead end of the map (02, note 7), in the loop alone and
+/// in the run-in too, and lists that leave it again; none if no way leads to one.
+pub fn parked(ways: &Ways, random: &mut Random) -> Vec<Drawn> {
+    let ends = ways.dead_ends_reached();
+    if ends.is_empty() {
+        return Vec::new();
+    }
+    let end = *random.pick(&ends);
+    let way = ways.way_to(end).expect("a way leads to it");
+    let before = &way[..way.len() - 1];
+    let stay = |least: usize, random: &mut Random| vec![end; random.between(least, 4)];
+    let tour = |kind, run_in: &[&[u8]], cycle: Vec<u8>| {
+        Drawn::new(kind, (run_in.concat(), cycle), Known::Tour)
+    };
+    let mut all = vec![
+        tour(PARKED, &[before], stay(1, random)),
+        tour(PARKED_EARLY, &[before, &stay(1, random)], stay(1, random)),
+    ];
+    // On to another place, from the first stay or a later one, or back to it as
+    // the loop's beginning.
+    let (early, late) = (stay(1, random), stay(0, random));
+    let others = (0..ways.places() as u8).filter(|&place| place != end);
+    let others: Vec<u8> = others.collect();
+    if !others.is_empty() {
+        let other = *random.pick(&others);
+        let walk = [before, &early, &[other], &late].concat();
+        let broken = Known::BreaksAt((before.len() + early.len()) as u64);
+        let split = random.below(walk.len());
+        let (run_in, cycle) = walk.split_at(split);
+        all.push(Drawn::new(LEFT, (run_in.to_vec(), cycle.to_vec()), broken));
+    }
+    if !before.is_empty() {
+        let (run_in, cycle) = way.split_at(random.below(before.len()));
+        let cycle = [cycle, &stay(0, random)].concat();
+        let broken = Known::BreaksAt((run_in.len() + cycle.len()) as u64);
+        all.push(Drawn::new(LEFT, (run_in.to_vec(), cycle), broken));
+    }
+    all
+}
+
+/// The tour with a stay where a car may not park, since a road leads on and none
+/// leads to the place itself: in the run-in, between run-in and loop, in the
+/// loop, and as the whole loop. Where no place will do, that list is left out.
+pub fn wrongly_parked(ways: &Ways, (run_in, cycle): &Lists, random: &mut Random) -> Vec<Drawn> {
+    let walk = [&run_in[..], cycle].concat();
+    let stays = |at: &usize| !ways.join(walk[*at], walk[*at]);
+    let in_run_in: Vec<usize> = (0..run_in.len()).filter(stays).collect();
+    let in_loop: Vec<usize> = (run_in.len()..walk.len()).filter(stays).collect();
+    let mut all = Vec::new();
+    let mut add = |kind, mut walk: Vec<u8>, split: usize, index: usize| {
+        let cycle = walk.split_off(split);
+        let known = Known::BreaksAt(index as u64);
+        all.push(Drawn::new(kind, (walk, cycle), known));
+    };
+    // So many times more the place stands behind itself.
+    let longer = |at: usize, more: usize| {
+        let place = walk[at];
+        [&walk[..at], &vec![place; more + 1], &walk[at + 1..]].concat()
+    };
+    if !in_run_in.is_empty() {
+        let (at, more) = (*random.pick(&in_run_in), random.between(1, 3));
+        add(
+            STAY_IN_RUN_IN,
+            longer(at, more),
+            run_in.len() + more,
+            at + 1,
+        );
+        // The stay begins in the run-in and goes on in the loop.
+        let last = run_in.len() - 1;
+        if stays(&last) {
+            add(STAY_IN_RUN_IN, longer(last, 1), last + 1, last + 1);
+        }
+    }
+    if !in_loop.is_empty() {
+        let (at, more) = (*random.pick(&in_loop), random.between(1, 3));
+        add(STAY_IN_LOOP, longer(at, more), run_in.len(), at + 1);
+        let at = *random.pick(&in_loop);
+        add(STAY_AS_LOOP, walk[..=at].to_vec(), at, at + 1);
+        // The loop's last place is its first too.
+        if stays(&run_in.len()) {
+            let closed = [&walk[..], &[cycle[0]]].concat();
+            add(STAY_AS_LOOP, closed, run_in.len(), walk.len() + 1);
+        }
+    }
+    all
+}
+
+/// A way to some place, and then a stay at a number that is no place: as the
+/// loop, in the run-in too, or from the beginning.
+pub fn parked_nowhere(ways: &Ways, walk: &[u8], random: &mut Random) -> Drawn {
+    let nowhere = unknown_place(ways, random);
+    let before = &walk[..random.below(walk.len() + 1)];
+    let stay = |count: usize| vec![nowhere; count];
+    let run_in = [before, &stay(random.below(3))].concat();
+    let known = Known::BreaksAt(before.len() as u64);
+    let cycle = stay(random.between(1, 3));
+    Drawn::new(NO_PLACE, (run_in, cycle), known)
 }
 
 /// A walk of the map as a run-in and a loop that does not close.

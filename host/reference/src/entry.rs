@@ -50,10 +50,21 @@ pub fn plan_with(
     run_in: &mut [u8],
     cycle: &mut [u8],
 ) -> u32 {
+    plan_by((read, best_tour), file, answer, run_in, cycle)
+}
+
+/// The same with another reader and another search for the best tour.
+pub fn plan_by(
+    (read, best): (Reader, impl Fn(&Plan) -> Option<(Tour, u8)>),
+    file: &[u8],
+    answer: &mut [u8],
+    run_in: &mut [u8],
+    cycle: &mut [u8],
+) -> u32 {
     if answer.len() < BLOCK_BYTES {
         return BLOCK_TOO_SHORT;
     }
-    let block = match read(file).and_then(|plan| plan_into(&plan, run_in, cycle)) {
+    let block = match read(file).and_then(|plan| plan_into(&plan, best, run_in, cycle)) {
         Ok(block) => block,
         Err(refusal) => Block {
             number: refusal.number() as u8,
@@ -65,11 +76,16 @@ pub fn plan_with(
     block.number as u32
 }
 
-fn plan_into(plan: &Plan, run_in: &mut [u8], cycle: &mut [u8]) -> Result<Block, Refusal> {
+fn plan_into(
+    plan: &Plan,
+    best: impl Fn(&Plan) -> Option<(Tour, u8)>,
+    run_in: &mut [u8],
+    cycle: &mut [u8],
+) -> Result<Block, Refusal> {
     if (run_in.len() as u64) < plan.size() || (cycle.len() as u64) < plan.cycle_bound() {
         return Err(Refusal::Buffer);
     }
-    let (tour, kept) = best_tour(plan).ok_or(Refusal::NoTour)?;
+    let (tour, kept) = best(plan).ok_or(Refusal::NoTour)?;
     run_in[..tour.run_in.len()].copy_from_slice(&tour.run_in);
     cycle[..tour.cycle.len()].copy_from_slice(&tour.cycle);
     Ok(success(plan, &tour, kept))

@@ -2,7 +2,7 @@
 
 use crate::figures::{soft, start_marked, x};
 use crate::maps::all_roads;
-use crate::plan::{Automaton, Plan, Soft};
+use crate::plan::{Automaton, Plan, Road, Soft};
 use crate::rules::{again, always, go, never, rule};
 
 /// One place without marks, and a road from it to itself.
@@ -47,6 +47,22 @@ pub fn lane(rule: Automaton) -> Plan {
         labels: vec![0, 0],
         soft: vec![soft(1, rule)],
         ..start_marked()
+    }
+}
+
+/// Plan X with other roads.
+pub fn x_with(roads: &[Road]) -> Plan {
+    let roads = roads.to_vec();
+    Plan { roads, ..x() }
+}
+
+/// Two places, the second with the mark, and a road from the first to the second,
+/// which is a dead end.
+pub fn dead_end(hard: Automaton, soft: Vec<Soft>) -> Plan {
+    Plan {
+        roads: vec![(0, 1)],
+        hard,
+        ..two_places(soft)
     }
 }
 

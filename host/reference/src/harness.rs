@@ -41,6 +41,9 @@ pub fn check(
             if let Some((kept, _)) = found {
                 tally.watched.answer(plan, kept, &others);
             }
+            if !much(Some(plan)) {
+                tally.parked.best(plan, found.map(|(kept, _)| kept));
+            }
         }
         for _ in 0..further {
             let lengths = chance_lengths(plan, random);
@@ -109,6 +112,13 @@ fn one_call(
     own.agrees(&reference).map_err(with_lengths)?;
     if let Some((run_in, cycle)) = own.tour() {
         follow(library, run_in, cycle, salt, tally)?;
+    }
+    if let Some(plan) = plan {
+        match (own.returned, own.tour()) {
+            (0, Some((_, cycle))) => tally.parked.tour(plan, cycle),
+            (6, _) => tally.parked.no_tour(plan),
+            _ => {}
+        }
     }
     if let (Some(plan), Some(tour), Some(worth)) = (plan, own.tour(), own.worth()) {
         check_own(library, case, plan, tour, worth, (salt, tally))

@@ -3,7 +3,7 @@
 //!
 //! | module | subject |
 //! |---|---|
-//! | `plan` | a plan as numbers, its text, N, cost and ties |
+//! | `plan` | a plan as numbers, its text, N, cost and ties, and which places are joined |
 //! | `reader` | from the file's bytes to a plan, or to its first fault |
 //! | `product` | the reachable part of the product graph, written out |
 //! | `components` | its strongly connected components |
@@ -24,6 +24,8 @@
 //! | `watchers` | their rules of weight 0, and plans with such rules that were worked out by hand |
 //! | `copies` | their roads that are written twice |
 //! | `fixed_copies` | plans with such roads whose answers were worked out by hand |
+//! | `parking` | their dead ends, at which a car parks |
+//! | `fixed_parking` | plans with dead ends whose answers were worked out by hand |
 //! | `damage` | faulty files, made from good ones |
 //! | `slips` | what may stand in the place of one line of an answer |
 //! | `texts`, `batches` | texts to read as answers: fixed ones, and generated ones |
@@ -44,6 +46,7 @@
 //! | `checked` | what a comparison has met of `check_tour` |
 //! | `watched` | what it has met of rules of weight 0 |
 //! | `copied` | what it has met of roads that are written twice |
+//! | `parked` | what it has met of dead ends |
 //! | `tally` | what a comparison has met, and what it should have met |
 //! | `transcript` | a library's answers to generated plans, written down with their places |
 
@@ -66,6 +69,7 @@ pub mod entry;
 pub mod figures;
 pub mod finding;
 pub mod fixed_copies;
+pub mod fixed_parking;
 pub mod guards;
 pub mod handmade;
 pub mod harness;
@@ -73,6 +77,8 @@ pub mod lent;
 pub mod library;
 pub mod loads;
 pub mod maps;
+pub mod parked;
+pub mod parking;
 pub mod plan;
 pub mod planner;
 pub mod product;

@@ -151,6 +151,36 @@ impl Plan {
         one & lowest != 0
     }
 
+    /// The places at which a car parks (02, note 7): those that no road leaves, a
+    /// bit for each. A road from a place to itself leaves it as any other does.
+    pub fn dead_ends(&self) -> u128 {
+        let places = (0..self.labels.len()).fold(0, |all, place| all | 1 << place);
+        let left = |ends: u128, &(from, _): &Road| ends & !(1 << from);
+        self.roads.iter().fold(places, left)
+    }
+
+    /// Whether this is a place, and one at which a car parks.
+    pub fn parks(&self, place: u8) -> bool {
+        (place as usize) < self.labels.len() && self.dead_ends() >> place & 1 == 1
+    }
+
+    /// Whether the one place may follow the other on a tour: by a road, or as a
+    /// car that parks stays where it is. Whoever asks that asks here, or goes
+    /// through all the steps.
+    pub fn joined(&self, from: u8, to: u8) -> bool {
+        self.roads.contains(&(from, to)) || from == to && self.parks(from)
+    }
+
+    /// All pairs of places that are joined: the roads as they stand in the file,
+    /// then each dead end with itself.
+    pub fn steps(&self) -> impl Iterator<Item = Road> + '_ {
+        let ends = self.dead_ends();
+        let places = 0..self.labels.len() as u8;
+        let parked = places.filter(move |place| ends >> place & 1 == 1);
+        let parked = parked.map(|place| (place, place));
+        self.roads.iter().copied().chain(parked)
+    }
+
     /// The line of the file, from 1, that has the road with this index.
     pub fn road_line(&self, index: usize) -> usize {
         // Before it: tour, marks, places, the labels, start, roads.

@@ -6,12 +6,12 @@ use crate::checker::{Block, Worth};
 use crate::drawn::{Drawn, Known, MANY};
 use crate::figures::{at_the_bound, soft, start_marked, x};
 use crate::handmade::{
-    first_only, one_place, second_move, silent, two_places, x_under, x_watching,
+    dead_end, first_only, one_place, second_move, silent, two_places, x_under, x_watching, x_with,
 };
 use crate::plan::{Plan, MAX_PLAN_BYTES, MAX_SIZE};
 use crate::random::Random;
 use crate::reader::Refusal;
-use crate::rules::{again, counter, go, never, rule, settle};
+use crate::rules::{again, always, counter, go, never, rule, settle};
 use crate::shapes::{large, Shape};
 use crate::walks::Ways;
 
@@ -47,6 +47,11 @@ pub fn by_hand() -> Vec<ByHand> {
         ..start_marked.clone()
     };
     let (choosing, watching) = (&choosing(), &x_watching());
+    let rules = vec![soft(1, again(0)), soft(2, never(0))];
+    let end = &dead_end(always(), rules.clone());
+    let no_mark = &dead_end(never(0), rules);
+    let no_roads = &x_with(&[]);
+    let (behind, ends) = (&x_with(&[(0, 1), (1, 2)]), &x_with(&[(0, 1), (0, 2)]));
     vec![
         row("keeps all", x, &[], &[0, 1], tour(true, 0, 3)),
         row("loses all", x, &[], &[0, 2], tour(true, 5, 0)),
@@ -95,6 +100,60 @@ pub fn by_hand() -> Vec<ByHand> {
         row("no road, no closing road", x, &[0, 1], &[1], at(2)),
         row("no road, unknown place", x, &[0, 1, 1], &[7], at(2)),
         row("unknown place, empty loop", x, &[0, 200], &[], at(1)),
+        row("parks", end, &[0], &[1], tour(true, 2, 1)),
+        row("parks twice", end, &[0], &[1, 1], tour(true, 2, 1)),
+        row(
+            "parks before the loop",
+            end,
+            &[0, 1],
+            &[1],
+            tour(true, 2, 1),
+        ),
+        row(
+            "parks for long",
+            end,
+            &[0, 1, 1, 1],
+            &[1, 1, 1],
+            tour(true, 2, 1),
+        ),
+        row(
+            "parks, not accepted",
+            no_mark,
+            &[0],
+            &[1],
+            tour(false, 2, 1),
+        ),
+        row("parks at the start", no_roads, &[], &[0], tour(true, 3, 2)),
+        row(
+            "parks at the start for long",
+            no_roads,
+            &[0, 0],
+            &[0, 0, 0],
+            tour(true, 3, 2),
+        ),
+        row("parks behind two", behind, &[0, 1], &[2], tour(true, 5, 0)),
+        row("parks at the first", ends, &[0], &[1, 1], tour(true, 0, 3)),
+        row("parks at the other", ends, &[0, 2], &[2], tour(true, 5, 0)),
+        row("stays in the run-in", end, &[0, 0], &[1], at(1)),
+        row("stays before the loop", end, &[0], &[0, 1], at(1)),
+        row("stays as the loop", end, &[], &[0], at(1)),
+        row("stays in the loop", end, &[], &[0, 0], at(1)),
+        row("stays behind a road", behind, &[0], &[1], at(2)),
+        row("stays behind a road twice", behind, &[0], &[1, 1], at(2)),
+        row("stays on the way", behind, &[0, 1, 1], &[2], at(2)),
+        row("stays in a loop", x, &[], &[0, 1, 1], at(2)),
+        row("stays to close a loop", x, &[0], &[1, 0, 1], at(4)),
+        row("leaves a dead end", end, &[0], &[1, 0], at(2)),
+        row("leaves a dead end later", end, &[0, 1, 1], &[0, 1], at(3)),
+        row("closes behind a dead end", end, &[], &[0, 1], at(2)),
+        row("closes later", end, &[], &[0, 1, 1, 1], at(4)),
+        row("from one dead end to another", ends, &[0, 1], &[2], at(2)),
+        row("parks at no place", end, &[0], &[2], at(1)),
+        row("parks at no place twice", end, &[0, 1], &[2, 2], at(2)),
+        row("parks at no place early", no_roads, &[0, 3], &[3], at(1)),
+        row("parks at no place at once", no_roads, &[], &[255], at(0)),
+        row("parks at another place", no_roads, &[], &[1], at(0)),
+        row("parks without a loop", no_roads, &[0, 0], &[], at(2)),
     ]
 }
 
@@ -135,6 +194,7 @@ pub fn small_maps() -> Vec<SmallMap> {
         ..one_place(counter(3, 0), marked)
     };
     let all_watching = two_places(vec![soft(0, never(0)), soft(0, again(0))]);
+    let rules = || vec![soft(1, again(0)), soft(2, never(0))];
     vec![
         row("plan X", x(), &[0, 1, 2, 255], (3, 3)),
         row("plan X, ramp again", x_under(again(1)), &[0, 1, 2], (3, 3)),
@@ -143,6 +203,29 @@ pub fn small_maps() -> Vec<SmallMap> {
         row("case 8", start_marked(), &[0, 1, 128], (3, 3)),
         row("choices", choosing(), &[0, 1], (4, 5)),
         row("one place", marked, &[0, 1], (4, 5)),
+        row("dead end", dead_end(always(), rules()), &[0, 1, 2], (3, 3)),
+        row("case 6", x_with(&[]), &[0, 1, 3], (3, 3)),
+        row(
+            "plan X, a dead end",
+            x_with(&[(0, 1), (1, 0), (0, 2)]),
+            &[0, 1, 2],
+            (3, 3),
+        ),
+        row(
+            "plan X, a dead end and a stay",
+            x_with(&[(0, 0), (0, 1), (0, 2), (2, 1)]),
+            &[0, 1, 2],
+            (3, 3),
+        ),
+        row(
+            "start at a dead end",
+            Plan {
+                start: 1,
+                ..x_with(&[(0, 1), (0, 2), (2, 0)])
+            },
+            &[0, 1, 2],
+            (3, 3),
+        ),
     ]
 }
 
@@ -223,6 +306,30 @@ pub fn long_tours() -> Vec<(Case, Drawn)> {
             Known::BreaksAt(2 * end + 1),
         );
         add(&x(), (vec![1], turns.clone()), Known::BreaksAt(0));
+    }
+    let end = dead_end(always(), vec![soft(1, counter(3, 0)), soft(2, settle(0))]);
+    for length in [254, MANY] {
+        let stay = vec![1; length];
+        let begun = [&[0], &stay[..]].concat();
+        let after = |more: &[u8]| [&begun[..], more].concat();
+        let end_of = length as u64 + 1;
+        add(&end, (vec![0], stay.clone()), Known::Tour);
+        add(&end, (begun.clone(), vec![1]), Known::Tour);
+        add(&end, (begun.clone(), stay.clone()), Known::Tour);
+        add(&end, (begun.clone(), vec![0]), Known::BreaksAt(end_of));
+        add(&end, (Vec::new(), begun.clone()), Known::BreaksAt(end_of));
+        add(&end, (after(&[2]), vec![2]), Known::BreaksAt(end_of));
+        add(
+            &end,
+            (vec![0], [&stay[..], &[0]].concat()),
+            Known::BreaksAt(end_of),
+        );
+        let turns = alternating(length);
+        let stays = [&turns[..], &[1]].concat();
+        let at = length as u64;
+        add(&x(), (stays.clone(), vec![0, 1]), Known::BreaksAt(at));
+        add(&x(), (Vec::new(), stays), Known::BreaksAt(at));
+        add(&x(), (turns, vec![0]), Known::BreaksAt(at + 1));
     }
     for (seed, shape) in (0..).zip([Shape::Wide, Shape::Rules, Shape::Dense, Shape::Mixed]) {
         let random = &mut Random::new(seed);

@@ -5,6 +5,7 @@ use crate::batches::GENERATED;
 use crate::checked::Checked;
 use crate::copied::Copied;
 use crate::entry::NUMBERS;
+use crate::parked::Parked;
 use crate::plan::Plan;
 use crate::shapes::SHAPES;
 use crate::texts::FIXED;
@@ -55,6 +56,7 @@ pub struct Tally {
     pub checked: Checked,
     pub watched: Watched,
     pub copied: Copied,
+    pub parked: Parked,
 }
 
 impl Tally {
@@ -83,6 +85,7 @@ impl Tally {
             self.fives += 1;
         }
         self.watched.plan(plan);
+        self.parked.plan(plan);
         if plan.size() >= NEAR {
             *self.near.entry(kind.into()).or_default() += 1;
         }
@@ -159,6 +162,7 @@ impl Tally {
         ];
         let planning = numbers.chain(shapes).chain(others);
         let planning = planning.chain(self.watched.due()).chain(self.copied.due());
+        let planning = planning.chain(self.parked.due());
         let all = planning.chain(self.reading()).chain(self.checked.due());
         all.filter(|(_, count)| *count == 0)
             .map(|(what, _)| what)
@@ -186,6 +190,7 @@ impl fmt::Display for Tally {
         )?;
         writeln!(f, "{}", self.watched)?;
         writeln!(f, "{}", self.copied)?;
+        writeln!(f, "{}", self.parked)?;
         let near: Vec<String> = self
             .near
             .iter()

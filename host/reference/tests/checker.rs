@@ -130,11 +130,13 @@ fn the_least_index_of_several() {
 }
 
 #[test]
-fn a_plan_without_roads_has_no_tour() {
+fn without_roads_a_car_parks_at_the_start() {
     let roads = Vec::new();
     let plan = Plan { roads, ..x() };
-    assert_eq!(broken(&plan, &[], &[0]), 1);
+    assert_eq!(worth(&plan, &[], &[0]), (true, 3, 2));
+    assert_eq!(worth(&plan, &[0, 0], &[0, 0, 0]), (true, 3, 2));
     assert_eq!(broken(&plan, &[], &[0, 1]), 1);
+    assert_eq!(broken(&plan, &[], &[1]), 0);
     assert_eq!(broken(&plan, &[0], &[]), 1);
 }
 
@@ -278,8 +280,8 @@ fn the_planner_s_own_tours() {
         assert_eq!(told, Ok(given));
         tours += 1;
     }
-    // Five of the examples; the figures 1 to 4, 7, 8, 10 twice, and 11.
-    assert_eq!(tours, 5 + 9);
+    // Six of the examples; the figures 1 to 4, 6 to 8, 10 twice, and 11.
+    assert_eq!(tours, 6 + 10);
 }
 
 #[test]

@@ -389,7 +389,7 @@ fault!(
     closes_the_loop_to_the_start,
     |file, run_in, cycle, block| {
         changed((file, run_in, cycle), block, |plan, told| match told {
-            Ok(_) if !plan.roads.contains(&(*cycle.last().unwrap(), plan.start)) => {
+            Ok(_) if !plan.joined(*cycle.last().unwrap(), plan.start) => {
                 let index = (run_in.len() + cycle.len()) as u64;
                 Err(Refusal::Broken { index })
             }

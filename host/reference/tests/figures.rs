@@ -8,7 +8,7 @@ use reference::harness::check_figure;
 use reference::library::REFERENCE;
 use reference::plan::Plan;
 use reference::reader::{read, Refusal};
-use reference::rules::{again, always, once};
+use reference::rules::{again, always, once, settle};
 use reference::tour::judge;
 
 /// What the reference says of a file: number, line, cost, kept, count.
@@ -151,13 +151,45 @@ fn accepting_only_in_the_run_in_is_not_accepting() {
 }
 
 #[test]
-fn a_lone_place_without_a_road_to_itself_is_no_loop() {
+fn a_lone_place_that_has_roads_but_none_to_itself_is_no_loop() {
     let plan = Plan {
-        roads: vec![(0, 1)],
+        roads: vec![(0, 1), (1, 0)],
+        hard: settle(0),
+        marks: 1,
+        labels: vec![0, 1],
         ..lane(always())
     };
     assert_eq!(answer(plan.text().as_bytes()).0, 6);
+    assert!(!judge(&plan, &[], &[0]).is_tour);
     assert!(!judge(&plan, &[0], &[1]).is_tour);
+    // A place without any road out is another matter (02, note 7).
+    let plan = Plan {
+        roads: vec![(0, 1)],
+        ..plan
+    };
+    assert_eq!(answer(plan.text().as_bytes()), (0, 0, 0, 1, 1));
+    assert!(!judge(&plan, &[], &[0]).is_tour);
+    assert!(judge(&plan, &[0], &[1]).is_tour);
+}
+
+#[test]
+fn case_6_is_place_0_repeated() {
+    let roads = Vec::new();
+    let file = Plan { roads, ..x() }.text();
+    let (mut block, mut run_in, mut cycle) = ([0; 16], [9; 18], [9; 72]);
+    let number = plan_tour(file.as_bytes(), &mut block, &mut run_in, &mut cycle);
+    let length = |at: usize| u16::from_le_bytes([block[at], block[at + 1]]) as usize;
+    let (before, turn) = (length(12), length(14));
+    assert_eq!((number, block[1], block[2], block[8]), (0, 2, 1, 3));
+    assert!(turn > 0);
+    assert!(run_in[..before]
+        .iter()
+        .chain(&cycle[..turn])
+        .all(|&place| place == 0));
+    assert!(run_in[before..]
+        .iter()
+        .chain(&cycle[turn..])
+        .all(|&byte| byte == 9));
 }
 
 #[test]

@@ -4,6 +4,7 @@
 use reference::cases::{case, Case};
 use reference::entry::plan_tour;
 use reference::figures::x;
+use reference::handmade::{silent, x_under};
 use reference::harness::{check, check_once};
 use reference::library::{Library, PlanTour, LIBRARY, REFERENCE};
 use reference::plan::Plan;
@@ -57,12 +58,11 @@ fn the_line_of_plan_x() {
 
 #[test]
 fn a_refusal_has_no_places() {
-    let roads = Vec::new();
-    let line = Transcript::default().line(REFERENCE, 2, &case_of(Plan { roads, ..x() }), 0);
+    let line = Transcript::default().line(REFERENCE, 2, &case_of(x_under(silent())), 0);
     let block = "06000000000000000000000000000000";
     assert_eq!(
         line,
-        format!("2 63629e771a7061f9 6 {block} runin= loop= e3f34a64ade040b2")
+        format!("2 eff238312511f352 6 {block} runin= loop= e3f34a64ade040b2")
     );
 }
 

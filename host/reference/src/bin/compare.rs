@@ -3,13 +3,13 @@
 //!     compare [--seconds S] [--first CASE] [--cases COUNT] [--bare] [--trace]
 //!     compare --transcript COUNT [--first CASE]
 //!
-//! First come the figures of 01, plans with rules that only watch and plans with
-//! roads that are written twice whose answers were worked out by hand, where
-//! upcoming places begin for some hundred thousand lengths and steps, files with
-//! buffers of every length about the limits, two plans harmed in every way of
-//! some kinds, tours to check, and texts to read as answers; then cases in the order of their numbers, from
-//! CASE (0 if not given) on, until S seconds (20) have passed or COUNT cases
-//! are done. A case is a plan, tours to check beside it and a batch of texts to
+//! First come the figures of 01, plans with rules that only watch, with dead ends
+//! and with roads that are written twice whose answers were worked out by hand,
+//! where upcoming places begin for some hundred thousand lengths and steps, files
+//! with buffers of every length about the limits, two plans harmed in every way
+//! of some kinds, tours to check, and texts to read as answers; then cases in the
+//! order of their numbers, from CASE (0 if not given) on, until S seconds (20)
+//! have passed or COUNT cases are done. A case is a plan, tours to check beside it and a batch of texts to
 //! read, the same on every run. With --bare nothing lies about the plan and the
 //! buffers: a checker of memory then sees each step beyond them. With --trace
 //! each case is told before its first call. The first difference is printed
@@ -33,6 +33,7 @@ use reference::checking::{
 };
 use reference::figures::figures;
 use reference::fixed_copies::fixed_copies;
+use reference::fixed_parking::fixed_parking;
 use reference::harness::{check, check_figure, check_limits, check_once};
 use reference::library::{Library, LIBRARY, NAME};
 use reference::reading::{check_chance_text, check_text, check_text_blocks, check_text_buffers};
@@ -92,7 +93,8 @@ fn main() {
     });
     let of_01 = figures().into_iter().map(|figure| (figure, "01"));
     let of_note_5 = hand_worked().into_iter().map(|figure| (figure, "note 5"));
-    for (figure, paper) in of_01.chain(of_note_5) {
+    let of_note_7 = fixed_parking().into_iter().map(|figure| (figure, "note 7"));
+    for (figure, paper) in of_01.chain(of_note_5).chain(of_note_7) {
         let name = format!("figure {} of {paper}", figure.name);
         options.put(&name, Some(("plan", &figure.file)), || {
             check_figure(LIBRARY, &figure)

@@ -1,6 +1,6 @@
 -- `key_at` meets its contract. Every text begins with an empty key, and one that is shorter than the key does not begin with it. Else the loop keeps
 -- that the text begins with the key where the rest of the text begins with the rest of the key; each return is one case of `startsWith`.
-use mathlib.Core.Path.{_≡_, refl, sym, ap, _∙_}
+use mathlib.Core.Path.{_≡_, refl, ap, _∙_}
 use mathlib.Core.List.{List, [], _∷_}
 use mathlib.Core.Bool.{Bool, true, false, cond}
 use Prim.Native.Nat.{ℕ, _+_, _-_, _≤_, _<_}
