@@ -9,14 +9,14 @@
 //! with buffers of every length about the limits, two plans harmed in every way
 //! of some kinds, tours to check, and texts to read as answers; then cases in the
 //! order of their numbers, from CASE (0 if not given) on, until S seconds (20)
-//! have passed or COUNT cases are done. A case is a plan, tours to check beside it and a batch of texts to
-//! read, the same on every run. With --bare nothing lies about the plan and the
-//! buffers: a checker of memory then sees each step beyond them. With --trace
-//! each case is told before its first call. The first difference is printed
-//! with its case and its plan or text, and the program ends with 1; without one
-//! it ends with 0 after a tally. A run of 20 seconds and more, not bounded by
-//! COUNT, also ends with 1 if something that it should have met is missing in
-//! the tally.
+//! have passed or COUNT cases are done. A case is a plan, tours to check beside
+//! it and a batch of texts to read, the same on every run. With --bare nothing
+//! lies about the plan and the buffers: a checker of memory then sees each step
+//! beyond them. With --trace each case is told before its first call. The first
+//! difference is printed with its case and its plan or text, and the program
+//! ends with 1; without one it ends with 0 after a tally. A run of 20 seconds
+//! and more, not bounded by COUNT, also ends with 1 if something that it should
+//! have met is missing in the tally.
 //!
 //! With --transcript nothing is compared: what the library answers to the plans
 //! of COUNT cases, from CASE on, is written down with its places, a line for
