@@ -1,9 +1,10 @@
--- Where a proposed tour breaks (02, note 4). Its places are counted from 0, those of the run-in first; `drawn` is the two lists as one.
+-- Where a proposed tour breaks (02, note 4; by note 7 a car that parks has a road to where it stands). Its places are counted from 0, those of the
+-- run-in first; `drawn` is the two lists as one.
 --   drawn stem cycle         == the places of run-in and loop
 --   unknown p s i            == place i is none of the plan's
 --   misplaced p s i          == place 0 is not the start
---   roadless p s i           == no road leads from the place before to place i
---   unclosed p stem cycle i  == i is the total length, and no road leads from the loop's last place to its first
+--   roadless p s i           == the place before is not joined to place i
+--   unclosed p stem cycle i  == i is the total length, and the loop's last place is not joined to its first
 --   loopless stem cycle i    == i is the run-in's length, and the loop is empty
 --   breaks p stem cycle i    == one of these five
 --   firstBreak p stem cycle  == the least index that breaks the tour, if any does

@@ -1,8 +1,8 @@
 -- A drive that does not break, place by place.
---   passes p s k    == place k of the list s is one of p, and a road leads to it from the place before; place 0 is the start
+--   passes p s k    == place k of the list s is one of p, and the place before is joined to it; place 0 is the start
 --   Passed p s n    == the first n places pass
---   closing p cycle == a road leads from the loop's last place to its first
---   closes p cycle  == the loop has a place, and such a road
+--   closing p cycle == the loop's last place is joined to its first
+--   closes p cycle  == the loop has a place, and that is so
 --   Verdict p s c f == f is the first break of the drive s with a loop that closes (c is true) or does not
 use mathlib.Core.Path.{_≡_}
 use mathlib.Core.Bool.{Bool, true, false, cond, _&&_}

@@ -1,5 +1,5 @@
 -- Endless drives of a plan, repeating or not.
---   Drive p f     == f t is the place at step t of an endless drive over the roads of p, from where a tour may begin
+--   Drive p f     == f t is the place at step t of an endless drive, each place joined to the next, from where a tour may begin
 --   read p f t    == the label that is read at step t
 --   HardRun p f   == the hard rule accepts the drive: an endless run that meets an accepting state again and again
 --   SoftRun p f i == soft rule i + 1 does

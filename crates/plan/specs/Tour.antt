@@ -45,7 +45,7 @@ joins p u v = hasRoad p u v || (eqb u v && parks p u)
 abbrev pub Begins : Plan → ℕ → Type 0
 Begins p v = v ≡ p .start
 
--- The last of the roads, at the last step of the loop, is the one that closes it.
+-- The last of these steps, from the last place of the loop, is the one that closes it.
 pub record IsLasso (p : Plan) (stem cycle : List ℕ) : Type 0 where
   pub filled : 0 < length cycle
   pub begins : Begins p (lassoAt stem cycle 0)
