@@ -51,9 +51,9 @@
 ** A road that is on two lines is almost always a slip for its return road, B,A,
 ** so such a plan is turned away.  A move that is on two lines changes nothing.
 **
-** A place that no road leaves leads to itself: a car that comes there parks, and
-** stands on a tour again and again.  A place that a road leaves, be it to itself,
-** is left by its roads alone: to stay there without one is no tour.
+** A place that no road leaves leads to itself: a car that comes there parks,
+** and its place comes again and again.  A place that a road leaves, be it to
+** itself, is left by its roads alone: to stay there without one is no tour.
 **
 ** A rule of weight 0 only watches: it costs nothing, its kept bit is exact, and
 ** between tours of equal cost it counts in the tie as any other.  As the last
