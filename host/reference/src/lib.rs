@@ -19,6 +19,7 @@
 //! | `brute` | the best of all short tours, and of some chance ones |
 //! | `random` | a small source of chance with a fixed seed |
 //! | `rules`, `maps`, `shapes` | automata, roads and large plans to generate |
+//! | `extremes` | shapes of plans for time alone: complete maps, little reached, tiny |
 //! | `walks` | walks of a map, and where they close to tours |
 //! | `guards` | their move lines of five numbers |
 //! | `watchers` | their rules of weight 0, and plans with such rules that were worked out by hand |
@@ -66,6 +67,7 @@ pub mod copies;
 pub mod damage;
 pub mod drawn;
 pub mod entry;
+pub mod extremes;
 pub mod figures;
 pub mod finding;
 pub mod fixed_copies;

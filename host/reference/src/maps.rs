@@ -1,7 +1,7 @@
 //! Places, labels and roads for generated plans.
 
 use crate::handmade::one_place;
-use crate::plan::{Automaton, Road, Soft, MAX_PLACES, MAX_ROADS};
+use crate::plan::{Automaton, Plan, Road, Soft, MAX_PLACES, MAX_ROADS};
 use crate::random::Random;
 use std::collections::HashSet;
 
@@ -57,4 +57,30 @@ pub fn once_each(mut roads: Vec<Road>) -> Vec<Road> {
     let mut met = HashSet::new();
     roads.retain(|&road| met.insert(road));
     roads
+}
+
+/// A plan with these rules and as many places as keep N within `size`: its start
+/// and labels by chance, its roads in some order, each once and as many as there
+/// may be.
+pub fn build(
+    random: &mut Random,
+    size: u64,
+    marks: u8,
+    hard: Automaton,
+    soft: Vec<Soft>,
+    roads: impl Fn(&mut Random, usize) -> Vec<Road>,
+) -> Plan {
+    let places = places_within(size, &hard, &soft);
+    let mut roads = roads(random, places);
+    random.shuffle(&mut roads);
+    roads.truncate(MAX_ROADS as usize);
+    let start = random.below(places) as u8;
+    Plan {
+        marks,
+        labels: labels(random, places, marks),
+        start,
+        roads: once_each(roads),
+        hard,
+        soft,
+    }
 }

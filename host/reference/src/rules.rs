@@ -1,6 +1,6 @@
 //! Automata for generated plans: some that mean something, some of chance.
 
-use crate::plan::{Automaton, Move, Soft};
+use crate::plan::{Automaton, Move, Soft, MAX_MOVES};
 use crate::random::Random;
 
 /// A move: its ends, the marks it needs and those it bars.
@@ -156,6 +156,24 @@ pub fn some_rule(random: &mut Random, states: u8, marks: u8) -> Automaton {
         6 => full(most.min(8), 1 << random.below(most.min(8) as usize)),
         _ => always(),
     }
+}
+
+/// From each state, under a label with the mark and under one without it, moves
+/// to one state at least and to `most` at most, or to fewer where there would be
+/// more moves than there may be. One state accepts.
+pub fn branching(random: &mut Random, states: u8, mark: u8, most: usize) -> Automaton {
+    let m = 1 << mark;
+    let room = MAX_MOVES as usize / (2 * states as usize);
+    let mut moves = Vec::new();
+    for q in 0..states {
+        for (need, bar) in [(m, 0), (0, m)] {
+            let count = random.between(1, most.min(room).min(states as usize));
+            let mut targets: Vec<u8> = (0..states).collect();
+            random.shuffle(&mut targets);
+            moves.extend(targets[..count].iter().map(|&r| go(q, need, bar, r)));
+        }
+    }
+    rule(states, 1 << random.below(states as usize), moves)
 }
 
 /// So many soft rules of at most `states` states.

@@ -1,11 +1,13 @@
-//! Large plans in several shapes, each a trial of another kind.
+//! Plans in several shapes, each a trial of another kind.
 
+use crate::extremes::{complete, little, tiny};
+use crate::figures::x;
 use crate::maps::*;
-use crate::plan::{Automaton, Plan, Road, Soft, MAX_ROADS};
+use crate::plan::{Automaton, Plan, Road, MAX_ROADS};
 use crate::random::Random;
 use crate::rules::*;
 
-/// The shapes of large plans.
+/// The shapes of plans: large ones, and `Tiny`.
 #[derive(Clone, Copy, Debug, PartialEq, Eq)]
 pub enum Shape {
     /// Many places, sixteen hard states, chance moves, no soft rule.
@@ -31,8 +33,16 @@ pub enum Shape {
     Barren,
     /// Automata of all sorts.
     Mixed,
+    /// Nearly every place joined to every other, as far as there may be roads, and
+    /// rules with one to three next states for a state and label.
+    Complete,
+    /// A large N, of which the start reaches little.
+    Little,
+    /// N of some tens at most.
+    Tiny,
 }
 
+/// The large ones that the comparison has.
 pub const SHAPES: [Shape; 10] = [
     Shape::Wide,
     Shape::Chain,
@@ -44,6 +54,23 @@ pub const SHAPES: [Shape; 10] = [
     Shape::Laps,
     Shape::Barren,
     Shape::Mixed,
+];
+
+/// Those that are timed.
+pub const TIMED: [Shape; 13] = [
+    Shape::Wide,
+    Shape::Chain,
+    Shape::Rules,
+    Shape::Dense,
+    Shape::Sparse,
+    Shape::Fan,
+    Shape::Beads,
+    Shape::Laps,
+    Shape::Barren,
+    Shape::Mixed,
+    Shape::Complete,
+    Shape::Little,
+    Shape::Tiny,
 ];
 
 impl Shape {
@@ -59,12 +86,24 @@ impl Shape {
             Shape::Laps => "laps",
             Shape::Barren => "barren",
             Shape::Mixed => "mixed",
+            Shape::Complete => "complete",
+            Shape::Little => "little",
+            Shape::Tiny => "tiny",
         }
     }
 }
 
+/// The plan with this number among those of the shape, for times and counts that
+/// are told with it. The first of the tiny ones is plan X.
+pub fn numbered(shape: Shape, size: u64, number: u64) -> Plan {
+    match (shape, number) {
+        (Shape::Tiny, 0) => x(),
+        _ => large(shape, size, &mut Random::new(number)),
+    }
+}
+
 /// A plan of this shape with N at most `size` (at least 64) and, as a rule,
-/// not far below.
+/// not far below; a tiny plan is tiny whatever `size` is.
 pub fn large(shape: Shape, size: u64, random: &mut Random) -> Plan {
     match shape {
         Shape::Wide => wide(size, random),
@@ -77,6 +116,9 @@ pub fn large(shape: Shape, size: u64, random: &mut Random) -> Plan {
         Shape::Laps => laps(size, random),
         Shape::Barren => barren(size, random),
         Shape::Mixed => mixed(size, random),
+        Shape::Complete => complete(size, random),
+        Shape::Little => little(size, random),
+        Shape::Tiny => tiny(random),
     }
 }
 
@@ -277,29 +319,6 @@ fn mixed(size: u64, random: &mut Random) -> Plan {
     build(random, size, marks, hard, soft, |random, places| {
         round_and_more(random, places, each * places)
     })
-}
-
-fn build(
-    random: &mut Random,
-    size: u64,
-    marks: u8,
-    hard: Automaton,
-    soft: Vec<Soft>,
-    roads: impl Fn(&mut Random, usize) -> Vec<Road>,
-) -> Plan {
-    let places = places_within(size, &hard, &soft);
-    let mut roads = roads(random, places);
-    random.shuffle(&mut roads);
-    roads.truncate(MAX_ROADS as usize);
-    let start = random.below(places) as u8;
-    Plan {
-        marks,
-        labels: labels(random, places, marks),
-        start,
-        roads: once_each(roads),
-        hard,
-        soft,
-    }
 }
 
 /// Place 0 is the start, then come the chain's places, then the many.
