@@ -34,6 +34,7 @@
 //! | `sketches` | fixed ones, some with their answers worked out by hand |
 //! | `loads` | tours to time the checker with |
 //! | `cases` | files to plan: fixed ones, and generated ones by their number |
+//! | `timing` | how long a call takes in two libraries, by turns |
 //! | `figures` | the cases that 01 sets down with their answers |
 //! | `handmade` | small plans and rules for fixed cases and tests |
 //! | `library` | the entries under comparison: of an archive, or the stand-in |
@@ -95,6 +96,7 @@ pub mod sketches;
 pub mod slips;
 pub mod tally;
 pub mod texts;
+pub mod timing;
 pub mod tour;
 pub mod transcript;
 pub mod upcoming;

@@ -10,6 +10,7 @@ use reference::reader::read;
 use reference::rules::branching;
 use reference::shapes::{large, numbered, Shape, SHAPES, TIMED};
 use std::collections::BTreeSet;
+use std::process::Command;
 
 const SIZES: [u64; 7] = [64, 100, 128, 256, 512, 1_024, MAX_SIZE];
 
@@ -145,4 +146,19 @@ fn tiny_plans_are_tiny() {
     let with_rules = plans(Shape::Tiny, 200).filter(|plan| !plan.soft.is_empty());
     assert!(with_rules.count() > 100);
     assert_eq!(numbered(Shape::Tiny, MAX_SIZE, 0), x());
+}
+
+#[test]
+fn the_program_writes_the_plan_with_a_number() {
+    let folder = std::path::Path::new(env!("CARGO_TARGET_TMPDIR"));
+    for shape in [Shape::Wide, Shape::Complete, Shape::Tiny] {
+        let file = folder.join(format!("{}.plan", shape.name()));
+        let status = Command::new(env!("CARGO_BIN_EXE_bench"))
+            .args(["--write", shape.name(), "0"])
+            .arg(&file)
+            .status();
+        assert!(status.unwrap().success());
+        let text = std::fs::read_to_string(file).unwrap();
+        assert_eq!(text, numbered(shape, MAX_SIZE, 0).text());
+    }
 }

@@ -1,38 +1,54 @@
-//! Times the library beside the reference, in one process, on large plans.
+//! Times the library beside the reference, in one process, on plans of several
+//! shapes.
 //!
 //!     bench [--plans COUNT] [--size N]
 //!     bench --checks
-//!     bench --write SHAPE SEED FILE
+//!     bench --write SHAPE NUMBER FILE
 //!
-//! For each shape, COUNT plans (9) with N near 2,048 or the number given: the
-//! median and the worst time of a plan, in microseconds, and how often the
-//! reference's time the library's is. Then how the median grows with N, and
-//! the power of N by which it does so from the third size to the last, and the
-//! size of a product of each shape; last, the time of checking tours, the
-//! library's for each place too. With --checks that alone.
+//! For each shape, COUNT plans (9) with N near 2,048 or the number given; those of
+//! the last shape are tiny. A table has the median and the worst time of a plan,
+//! in microseconds, and how often the reference's time the library's is. A second
+//! one has the plan of each shape for which that is worst: its ratio, its times
+//! and its number. Then how the median grows with N, and the power of N by which it
+//! does so from the third size to the last, and the size of a product of each
+//! shape; last, the time of checking tours, the library's for each place too. With
+//! --checks that alone.
 //!
-//! With --write no time is taken: the file becomes the plan number SEED of that
-//! shape, with N near 2,048.
+//! With --write no time is taken: the file becomes the plan of that shape with
+//! that number, with N near 2,048. The tiny plan with number 0 is plan X.
 
 use reference::components::components;
 use reference::library::{Library, LIBRARY, NAME, REFERENCE};
 use reference::loads::{loads, Load};
 use reference::product::Product;
-use reference::random::Random;
 use reference::reader::read;
-use reference::shapes::{large, Shape, SHAPES};
+use reference::shapes::{numbered, Shape, TIMED};
+use reference::timing::{time_both, Effort, Times};
 use std::hint::black_box;
 use std::time::Instant;
 
-/// Each plan is planned so often by each, in turns; the shortest time counts.
+/// How often a plan is planned by each, in turns.
+const OFTEN: Effort = Effort {
+    least: 5,
+    most: 50,
+    enough: 30_000.0,
+};
+/// The same where no single plan matters.
+const SELDOM: Effort = Effort {
+    least: 3,
+    most: 3,
+    enough: 0.0,
+};
+
+/// Each tour is checked so often by each, in turns; the shortest time counts.
 const REPEATS: usize = 3;
 
 fn main() {
     let (mut plans, mut size) = (9, 2_048);
     let arguments: Vec<String> = std::env::args().skip(1).collect();
-    if let [write, shape, seed, file] = &arguments[..] {
+    if let [write, shape, number, file] = &arguments[..] {
         if write == "--write" {
-            return write_plan(shape, seed, file);
+            return write_plan(shape, number, file);
         }
     }
     if arguments == ["--checks"] {
@@ -50,35 +66,72 @@ fn main() {
     }
 
     println!("library: {NAME}; {plans} plans of each shape; microseconds");
+    let measured: Vec<(Shape, Measured)> = TIMED
+        .into_iter()
+        .map(|shape| (shape, measure(shape, size, plans, OFTEN)))
+        .collect();
+    tell_medians(&measured);
+    tell_worst(&measured);
+    tell_growth(plans);
+    tell_products(size, plans);
+    println!();
+    time_checks();
+}
+
+fn tell_medians(measured: &[(Shape, Measured)]) {
     println!(
         "{:8} {:>5} {:>11} {:>11} {:>11} {:>11} {:>7} {:>7}",
         "shape", "N", "ref median", "ref worst", "lib median", "lib worst", "median", "worst"
     );
-    for shape in SHAPES {
-        let times = measure(shape, size, plans);
-        let (reference, library) = (&times.reference, &times.library);
+    for (shape, measured) in measured {
+        let (reference, library) = (measured.of(|t| t.reference), measured.of(|t| t.library));
         println!(
             "{:8} {:>5} {:>11.1} {:>11.1} {:>11.1} {:>11.1} {:>6.2}x {:>6.2}x",
             shape.name(),
-            times.size,
-            median(reference),
-            worst(reference),
-            median(library),
-            worst(library),
-            median(library) / median(reference),
-            worst(library) / worst(reference),
+            measured.size,
+            median(&reference),
+            worst(&reference),
+            median(&library),
+            worst(&library),
+            median(&library) / median(&reference),
+            worst(&library) / worst(&reference),
         );
     }
+}
 
+fn tell_worst(measured: &[(Shape, Measured)]) {
+    println!("\nof each shape the plan with the worst ratio");
+    println!(
+        "{:8} {:>6} {:>11} {:>11} {:>7}",
+        "shape", "number", "reference", "library", "ratio"
+    );
+    for (shape, measured) in measured {
+        let ratios = measured.of(Times::ratio);
+        let number = (0..ratios.len())
+            .max_by(|&one, &other| ratios[one].total_cmp(&ratios[other]))
+            .expect("at least one plan");
+        let times = &measured.times[number];
+        println!(
+            "{:8} {number:>6} {:>11.1} {:>11.1} {:>6.2}x",
+            shape.name(),
+            times.reference,
+            times.library,
+            times.ratio(),
+        );
+    }
+}
+
+fn tell_growth(plans: u64) {
     println!("\ngrowth with N: median of the library (of the reference)");
-    for shape in SHAPES {
+    for shape in TIMED.into_iter().filter(|&shape| shape != Shape::Tiny) {
         let mut row = format!("{:8}", shape.name());
         let mut medians = Vec::new();
         for size in [128, 256, 512, 1_024, 2_048] {
-            let times = measure(shape, size, plans.min(5));
-            let (library, reference) = (median(&times.library), median(&times.reference));
-            row += &format!(" {:>5}: {library:.0} ({reference:.0})", times.size);
-            medians.push((times.size as f64, library));
+            let measured = measure(shape, size, plans.min(5), SELDOM);
+            let library = median(&measured.of(|t| t.library));
+            let reference = median(&measured.of(|t| t.reference));
+            row += &format!(" {:>5}: {library:.0} ({reference:.0})", measured.size);
+            medians.push((measured.size as f64, library));
         }
         let [_, _, (n, before), .., (last_n, last)] = medians[..] else {
             unreachable!()
@@ -88,17 +141,18 @@ fn main() {
             (last / before).log2() / (last_n / n).log2()
         );
     }
+}
 
+fn tell_products(size: u64, plans: u64) {
     println!("\nof each shape the product with the most arcs, as far as it is reached");
     println!(
         "{:8} {:>6} {:>9} {:>11}",
         "shape", "nodes", "arcs", "components"
     );
-    for shape in SHAPES {
-        let (arcs, product) = (0..plans)
-            .map(|seed| Product::of(&large(shape, size, &mut Random::new(seed))))
-            .map(|product| (arcs(&product), product))
-            .max_by_key(|(arcs, _)| *arcs)
+    for shape in TIMED {
+        let product = (0..plans)
+            .map(|number| Product::of(&numbered(shape, size, number)))
+            .max_by_key(Product::arcs)
             .expect("at least one plan");
         let mut parts = components(&product);
         parts.sort_unstable();
@@ -107,12 +161,10 @@ fn main() {
             "{:8} {:>6} {:>9} {:>11}",
             shape.name(),
             product.len(),
-            arcs,
+            product.arcs(),
             parts.len()
         );
     }
-    println!();
-    time_checks();
 }
 
 /// A tour is checked again and again until so many microseconds have passed.
@@ -169,67 +221,53 @@ fn time_check(load: &Load, library: Library) -> f64 {
 fn usage() -> ! {
     eprintln!("usage: bench [--plans COUNT] [--size N], N from 64 to 2048");
     eprintln!("       bench --checks");
-    eprintln!("       bench --write SHAPE SEED FILE");
+    eprintln!("       bench --write SHAPE NUMBER FILE");
     std::process::exit(2)
 }
 
-fn write_plan(shape: &str, seed: &str, file: &str) {
-    let shape = SHAPES.into_iter().find(|known| known.name() == shape);
-    let (Some(shape), Ok(seed)) = (shape, seed.parse()) else {
+fn write_plan(shape: &str, number: &str, file: &str) {
+    let shape = TIMED.into_iter().find(|known| known.name() == shape);
+    let (Some(shape), Ok(number)) = (shape, number.parse()) else {
         usage()
     };
-    let plan = large(shape, 2_048, &mut Random::new(seed));
+    let plan = numbered(shape, 2_048, number);
     if let Err(what) = std::fs::write(file, plan.text()) {
         eprintln!("bench: {file}: {what}");
         std::process::exit(1);
     }
 }
 
-fn arcs(product: &Product) -> usize {
-    (0..product.len())
-        .map(|node| product.next(node as u16).len())
-        .sum()
-}
-
 /// The times of each plan of one shape, and the median N.
-struct Times {
+struct Measured {
     size: u64,
-    reference: Vec<f64>,
-    library: Vec<f64>,
+    times: Vec<Times>,
 }
 
-fn measure(shape: Shape, size: u64, plans: u64) -> Times {
-    let mut times = Times {
-        size: 0,
-        reference: Vec::new(),
-        library: Vec::new(),
-    };
-    let mut sizes = Vec::new();
-    for seed in 0..plans {
-        let plan = large(shape, size, &mut Random::new(seed));
+impl Measured {
+    fn of(&self, value: impl Fn(&Times) -> f64) -> Vec<f64> {
+        self.times.iter().map(value).collect()
+    }
+}
+
+fn measure(shape: Shape, size: u64, plans: u64, effort: Effort) -> Measured {
+    let (mut sizes, mut times) = (Vec::new(), Vec::new());
+    for number in 0..plans {
+        let plan = numbered(shape, size, number);
         let text = plan.text().into_bytes();
         assert_eq!(read(&text), Ok(plan.clone()));
         sizes.push(plan.size());
-        let (mut reference, mut library) = (f64::INFINITY, f64::INFINITY);
-        for _ in 0..REPEATS {
-            reference = reference.min(time(&text, REFERENCE));
-            library = library.min(time(&text, LIBRARY));
-        }
-        times.reference.push(reference);
-        times.library.push(library);
+        let taken = time_both(&text, REFERENCE, LIBRARY, effort);
+        times.push(taken.unwrap_or_else(|what| {
+            println!(
+                "bench: {NAME}: different answers to {} {number}\n{what}",
+                shape.name()
+            );
+            std::process::exit(1)
+        }));
     }
     sizes.sort_unstable();
-    times.size = sizes[sizes.len() / 2];
-    times
-}
-
-fn time(file: &[u8], library: Library) -> f64 {
-    let (mut answer, mut run_in, mut cycle) = ([0; 16], [0; 2_048], [0; 20_480]);
-    let begin = Instant::now();
-    let number = (library.plan_tour)(file, &mut answer, &mut run_in, &mut cycle);
-    let spent = begin.elapsed().as_secs_f64() * 1e6;
-    assert!(number == 0 || number == 6, "refusal {number}");
-    spent
+    let size = sizes[sizes.len() / 2];
+    Measured { size, times }
 }
 
 fn median(times: &[f64]) -> f64 {
