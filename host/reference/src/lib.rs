@@ -34,7 +34,9 @@
 //! | `sketches` | fixed ones, some with their answers worked out by hand |
 //! | `loads` | tours to time the checker with |
 //! | `cases` | files to plan: fixed ones, and generated ones by their number |
+//! | `trials` | plans to search for those that take the library longest, by their number |
 //! | `timing` | how long a call takes in two libraries, by turns |
+//! | `ranking` | the trials whose ratio is worst |
 //! | `figures` | the cases that 01 sets down with their answers |
 //! | `handmade` | small plans and rules for fixed cases and tests |
 //! | `library` | the entries under comparison: of an archive, or the stand-in |
@@ -86,6 +88,7 @@ pub mod plan;
 pub mod planner;
 pub mod product;
 pub mod random;
+pub mod ranking;
 pub mod reader;
 pub mod reading;
 pub mod reply;
@@ -99,6 +102,7 @@ pub mod texts;
 pub mod timing;
 pub mod tour;
 pub mod transcript;
+pub mod trials;
 pub mod upcoming;
 pub mod walks;
 pub mod watched;
