@@ -35,6 +35,7 @@
 //! | `loads` | tours to time the checker with |
 //! | `cases` | files to plan: fixed ones, and generated ones by their number |
 //! | `trials` | plans to search for those that take the library longest, by their number |
+//! | `clock` | the time that counts where two libraries are timed |
 //! | `timing` | how long a call takes in two libraries, by turns |
 //! | `ranking` | the trials whose ratio is worst |
 //! | `figures` | the cases that 01 sets down with their answers |
@@ -64,6 +65,7 @@ pub mod causes;
 pub mod checked;
 pub mod checker;
 pub mod checking;
+pub mod clock;
 pub mod components;
 pub mod copied;
 pub mod copies;

@@ -1,8 +1,8 @@
 //! How long a call of `plan_tour` takes in two libraries, by turns.
 
+use crate::clock::processor_time;
 use crate::library::Library;
 use std::hint::black_box;
-use std::time::Instant;
 
 /// The least time of one call in each library, in microseconds.
 #[derive(Clone, Copy, Debug, PartialEq)]
@@ -27,7 +27,7 @@ impl Times {
 }
 
 /// How often a plan is timed: at least so many runs of each library, at most so
-/// many, and no more of them once so many microseconds have passed.
+/// many, and no more of them once they have taken so many microseconds.
 #[derive(Clone, Copy, Debug)]
 pub struct Effort {
     pub least: usize,
@@ -36,7 +36,7 @@ pub struct Effort {
 }
 
 /// A run has as many calls as take so many microseconds, so that reading the
-/// clock does not count.
+/// clock hardly counts.
 const RUN: f64 = 50.0;
 
 /// Times both libraries on a plan, run by run in turn. Fails if they do not give
@@ -53,9 +53,10 @@ pub fn time_both(
     }
     let runs = [reference, library].map(|one| (one, calls(file, one)));
     let mut least = [f64::INFINITY; 2];
-    let begin = Instant::now();
+    let begin = processor_time();
+    let spent = || processor_time() - begin;
     let mut done = 0;
-    while done < effort.least || done < effort.most && passed(begin) < effort.enough {
+    while done < effort.least || done < effort.most && spent() < effort.enough {
         for (least, (one, calls)) in least.iter_mut().zip(runs) {
             *least = least.min(run(file, one, calls) / calls as f64);
         }
@@ -85,15 +86,11 @@ fn calls(file: &[u8], library: Library) -> usize {
 /// The time of so many calls.
 fn run(file: &[u8], library: Library, calls: usize) -> f64 {
     let (mut block, mut run_in, mut cycle) = ([0; 16], [0; 2_048], [0; 20_480]);
-    let begin = Instant::now();
+    let begin = processor_time();
     for _ in 0..calls {
         let file = black_box(file);
         (library.plan_tour)(file, &mut block, &mut run_in, &mut cycle);
         black_box((&block, &run_in, &cycle));
     }
-    passed(begin)
-}
-
-fn passed(begin: Instant) -> f64 {
-    begin.elapsed().as_secs_f64() * 1e6
+    processor_time() - begin
 }

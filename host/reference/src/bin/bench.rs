@@ -17,6 +17,7 @@
 //! With --write no time is taken: the file becomes the plan of that shape with
 //! that number, with N near 2,048. The tiny plan with number 0 is plan X.
 
+use reference::clock::processor_time;
 use reference::components::components;
 use reference::library::{Library, LIBRARY, NAME, REFERENCE};
 use reference::loads::{loads, Load};
@@ -25,15 +26,16 @@ use reference::reader::read;
 use reference::shapes::{numbered, Shape, TIMED};
 use reference::timing::{time_both, Effort, Times};
 use std::hint::black_box;
-use std::time::Instant;
 
-/// How often a plan is planned by each, in turns.
+/// How often a plan is planned by each, in turns, and how many times all plans are
+/// gone through, since the machine may be slower for some seconds.
 const OFTEN: Effort = Effort {
-    least: 5,
-    most: 50,
-    enough: 30_000.0,
+    least: 3,
+    most: 20,
+    enough: 10_000.0,
 };
-/// The same where no single plan matters.
+const PASSES: usize = 3;
+/// The first where no single plan matters.
 const SELDOM: Effort = Effort {
     least: 3,
     most: 3,
@@ -66,10 +68,12 @@ fn main() {
     }
 
     println!("library: {NAME}; {plans} plans of each shape; microseconds");
-    let measured: Vec<(Shape, Measured)> = TIMED
-        .into_iter()
-        .map(|shape| (shape, measure(shape, size, plans, OFTEN)))
-        .collect();
+    let mut measured = TIMED.map(|shape| (shape, measure(shape, size, plans, OFTEN)));
+    for _ in 1..PASSES {
+        for (shape, measured) in &mut measured {
+            measured.least(&measure(*shape, size, plans, OFTEN));
+        }
+    }
     tell_medians(&measured);
     tell_worst(&measured);
     tell_growth(plans);
@@ -206,12 +210,12 @@ fn checked(load: &Load, library: Library) -> [u8; 24] {
 }
 
 fn time_check(load: &Load, library: Library) -> f64 {
-    let begin = Instant::now();
+    let begin = processor_time();
     let mut calls = 0.0;
     loop {
         black_box(checked(black_box(load), library));
         calls += 1.0;
-        let spent = begin.elapsed().as_secs_f64() * 1e6;
+        let spent = processor_time() - begin;
         if spent >= LEAST {
             return spent / calls;
         }
@@ -246,6 +250,13 @@ struct Measured {
 impl Measured {
     fn of(&self, value: impl Fn(&Times) -> f64) -> Vec<f64> {
         self.times.iter().map(value).collect()
+    }
+
+    /// Keeps the least times of the same plans.
+    fn least(&mut self, other: &Measured) {
+        for (times, other) in self.times.iter_mut().zip(&other.times) {
+            *times = times.least(other);
+        }
     }
 }
 
