@@ -32,12 +32,14 @@ const FIRST: Effort = Effort {
     enough: 4_000.0,
 };
 
-/// A plan that looks bad.
+/// A plan that looks bad is timed in several rounds, since the machine may be slower
+/// for some seconds.
 const AGAIN: Effort = Effort {
-    least: 10,
-    most: 30,
-    enough: 400_000.0,
+    least: 4,
+    most: 10,
+    enough: 150_000.0,
 };
+const ROUNDS: usize = 3;
 
 /// The plans that take the library more than each of these times are looked at by
 /// themselves. So many of them are told, and so many are timed again for it; of
@@ -106,9 +108,11 @@ fn search(first: u64, count: u64) -> Result<(), String> {
     for name in &kinds {
         suspects.extend(worst(&found, |one| kind(one) == name, SUSPECTS_OF_A_KIND));
     }
-    confirm(&mut found, &suspects, |one| {
-        timed(one.number, &trial(one.number).plan, AGAIN)
-    })?;
+    for _ in 0..ROUNDS {
+        confirm(&mut found, &suspects, |one| {
+            timed(one.number, &trial(one.number).plan, AGAIN)
+        })?;
+    }
 
     tell_kinds(&found, &kinds);
     let ratios = found.iter().map(|found| found.times.ratio());
@@ -144,21 +148,31 @@ fn kind(found: &Found) -> &str {
     found.kind.split(':').next().unwrap_or_default()
 }
 
+/// The heads of what `row` has.
+const HEADS: &str = "  number     N reached     arcs  reference    library    ratio";
+
+fn row(found: &Found) -> String {
+    let product = Product::of(&trial(found.number).plan);
+    format!(
+        "{:>8} {:>5} {:>7} {:>8} {:>10.1} {:>10.1} {:>7.2}x",
+        found.number,
+        found.size,
+        product.len(),
+        product.arcs(),
+        found.times.reference,
+        found.times.library,
+        found.times.ratio(),
+    )
+}
+
 fn tell_kinds(found: &[Found], kinds: &BTreeSet<String>) {
-    println!(
-        "{:10} {:>6} {:>8} {:>8} {:>8}",
-        "kind", "plans", "median", "worst", "number"
-    );
+    println!("of each kind the median ratio, and the worst plan");
+    println!("{:10} {:>6} {:>8} {HEADS}", "kind", "plans", "median");
     for name in kinds {
         let all = worst(found, |one| kind(one) == name, found.len());
-        let middle = &found[all[all.len() / 2]];
-        println!(
-            "{name:10} {:>6} {:>7.2}x {:>7.2}x {:>8}",
-            all.len(),
-            middle.times.ratio(),
-            found[all[0]].times.ratio(),
-            found[all[0]].number,
-        );
+        let median = found[all[all.len() / 2]].times.ratio();
+        let worst = row(&found[all[0]]);
+        println!("{name:10} {:>6} {median:>7.2}x {worst}", all.len());
     }
 }
 
@@ -168,23 +182,8 @@ fn tell_worst(found: &[Found], floor: f64) {
     } else {
         println!("\nthe worst ratios");
     }
-    println!(
-        "{:>8} {:>5} {:>7} {:>8} {:>10} {:>10} {:>8}  kind",
-        "number", "N", "reached", "arcs", "reference", "library", "ratio"
-    );
+    println!("{HEADS}  kind");
     for at in worst(found, above(floor), TOLD) {
-        let found = &found[at];
-        let product = Product::of(&trial(found.number).plan);
-        println!(
-            "{:>8} {:>5} {:>7} {:>8} {:>10.1} {:>10.1} {:>7.2}x  {}",
-            found.number,
-            found.size,
-            product.len(),
-            product.arcs(),
-            found.times.reference,
-            found.times.library,
-            found.times.ratio(),
-            found.kind,
-        );
+        println!("{}  {}", row(&found[at]), found[at].kind);
     }
 }
