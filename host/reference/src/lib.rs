@@ -36,7 +36,7 @@
 //! | `cases` | files to plan: fixed ones, and generated ones by their number |
 //! | `trials` | plans to search for those that take the library longest, by their number |
 //! | `clock` | the time that counts where two libraries are timed |
-//! | `timing` | how long a call takes in two libraries, by turns |
+//! | `timing` | how long calls take, of two libraries by turns |
 //! | `ranking` | the trials whose ratio is worst |
 //! | `figures` | the cases that 01 sets down with their answers |
 //! | `handmade` | small plans and rules for fixed cases and tests |

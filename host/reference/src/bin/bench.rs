@@ -17,14 +17,13 @@
 //! With --write no time is taken: the file becomes the plan of that shape with
 //! that number, with N near 2,048. The tiny plan with number 0 is plan X.
 
-use reference::clock::processor_time;
 use reference::components::components;
 use reference::library::{Library, LIBRARY, NAME, REFERENCE};
 use reference::loads::{loads, Load};
 use reference::product::Product;
 use reference::reader::read;
 use reference::shapes::{numbered, Shape, TIMED};
-use reference::timing::{time_both, Effort, Times};
+use reference::timing::{by_turns, time_both, Effort, Times};
 use std::hint::black_box;
 
 /// How often a plan is planned by each, in turns, and how many times all plans are
@@ -35,15 +34,12 @@ const OFTEN: Effort = Effort {
     enough: 10_000.0,
 };
 const PASSES: usize = 3;
-/// The first where no single plan matters.
+/// How often where no single plan matters, and for tours to check.
 const SELDOM: Effort = Effort {
     least: 3,
     most: 3,
     enough: 0.0,
 };
-
-/// Each tour is checked so often by each, in turns; the shortest time counts.
-const REPEATS: usize = 3;
 
 fn main() {
     let (mut plans, mut size) = (9, 2_048);
@@ -171,9 +167,6 @@ fn tell_products(size: u64, plans: u64) {
     }
 }
 
-/// A tour is checked again and again until so many microseconds have passed.
-const LEAST: f64 = 200.0;
-
 fn time_checks() {
     println!("library: {NAME}; checking tours; microseconds");
     println!(
@@ -181,22 +174,21 @@ fn time_checks() {
         "tour", "plan", "places", "reference", "library", "ns/place", "ratio"
     );
     for load in loads() {
-        let (mut reference, mut library) = (f64::INFINITY, f64::INFINITY);
         assert_eq!(checked(&load, REFERENCE), checked(&load, LIBRARY));
-        for _ in 0..REPEATS {
-            reference = reference.min(time_check(&load, REFERENCE));
-            library = library.min(time_check(&load, LIBRARY));
-        }
+        let check = |library| {
+            black_box(checked(black_box(&load), library));
+        };
+        let times = by_turns(|| check(REFERENCE), || check(LIBRARY), SELDOM);
         let places = load.run_in.len() + load.cycle.len();
         println!(
             "{:30} {:>7} {:>8} {:>10.1} {:>10.1} {:>9.1} {:>6.2}x",
             load.name,
             load.file.len(),
             places,
-            reference,
-            library,
-            1e3 * library / places as f64,
-            library / reference,
+            times.reference,
+            times.library,
+            1e3 * times.library / places as f64,
+            times.ratio(),
         );
     }
 }
@@ -207,19 +199,6 @@ fn checked(load: &Load, library: Library) -> [u8; 24] {
     let number = (library.check_tour)(&load.file, &load.run_in, &load.cycle, &mut block);
     assert_eq!(number, 0, "{}", load.name);
     block
-}
-
-fn time_check(load: &Load, library: Library) -> f64 {
-    let begin = processor_time();
-    let mut calls = 0.0;
-    loop {
-        black_box(checked(black_box(load), library));
-        calls += 1.0;
-        let spent = processor_time() - begin;
-        if spent >= LEAST {
-            return spent / calls;
-        }
-    }
 }
 
 fn usage() -> ! {
