@@ -1,7 +1,4 @@
--- The laws of the crate, for its own proofs and for the crates above.
-pub mod Cursors
-pub mod Descents
+pub mod Kosaraju
 pub mod Components
 pub mod Judging
 pub mod Sweeps
-pub mod Reading

@@ -1,4 +1,3 @@
 pub mod Colours
 pub mod Route
-pub mod Component
 pub mod Drive

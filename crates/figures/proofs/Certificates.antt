@@ -25,7 +25,7 @@ use Rattle.plan.specs.Key.{key}
 use Rattle.plan.specs.declared.Plan.{Plan}
 use Rattle.plan.proofs.Keys.{key-mono}
 use Rattle.plan.proofs.Ties.{Within}
-use Rattle.compile.specs.Product.{arcOf, coloursOf, startNode}
+use Rattle.product.specs.Product.{arcOf, coloursOf, startNode}
 use Rattle.optimality.specs.Offer.{Edge, Colour, Offers, Choice, Nothing}
 use Rattle.optimality.proofs.Colours.{bit-colour}
 use Rattle.figures.specs.Certificate.{everyOf, someOf, implies, has, listed, shades, turns, closed, parted, certified, walksBy}

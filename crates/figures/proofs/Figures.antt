@@ -35,8 +35,8 @@ use Rattle.reader.specs.Reading.{draftOf, answer, readPlan}
 use Rattle.reader.specs.declared.Outcome.{Outcome}
 use Rattle.reader.specs.declared.Outcome.the-variants as outcome
 use Rattle.reader.proofs.WellRead.{read-well}
-use Rattle.product.specs.Radix.{stride, encode}
-use Rattle.compile.specs.Product.{radices, tuple, nodeOf, arcOf, coloursBelow}
+use Rattle.tuples.specs.Radix.{stride, encode}
+use Rattle.product.specs.Product.{radices, tuple, nodeOf, arcOf, coloursBelow}
 use Rattle.optimality.specs.Offer.{Choice}
 use Rattle.optimality.proofs.Bound.{bound}
 use Rattle.optimality.proofs.Best.{lasso-drive, hard-unrolls, soft-unrolls, tour-best, tour-none, exact}

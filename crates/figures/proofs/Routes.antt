@@ -16,7 +16,7 @@ use Rattle.plan.specs.Tour.{IsLasso, Hard, Soft}
 use Rattle.plan.specs.Cost.{keeps}
 use Rattle.plan.specs.declared.Plan.{Plan}
 use Rattle.graph.specs.Paths.{Walk}
-use Rattle.compile.specs.Product.{startNode, placeOf, hardOf, softOf}
+use Rattle.product.specs.Product.{startNode, placeOf, hardOf, softOf}
 use Rattle.optimality.specs.Offer.{Edge}
 use Rattle.optimality.proofs.Witness.{witness-lasso, witness-hard, witness-soft}
 use Rattle.figures.specs.Certificate.{implies}

@@ -35,7 +35,7 @@ use Rattle.plan.specs.declared.Plan.{Plan}
 use Rattle.reader.specs.Reading.{readPlan}
 use Rattle.reader.specs.declared.Outcome.{Outcome}
 use Rattle.reader.specs.declared.Outcome.the-variants as outcome
-use Rattle.compile.specs.Product.{startNode, hardOf, softOf}
+use Rattle.product.specs.Product.{startNode, hardOf, softOf}
 use Rattle.serve.specs.Upcoming.{upcomingPlaces}
 use Rattle.figures.specs.Bytes.{bytes}
 use Rattle.figures.specs.Claim.{Room, atLeast, exactly, Numbers, tour, refusal, Answers, Turned, Repeated, Dear, Tied}

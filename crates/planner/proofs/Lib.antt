@@ -2,6 +2,7 @@
 pub mod Bridge
 pub mod Made
 pub mod Steps
+pub mod Desks
 pub mod Verdicts
 pub mod Unique
 pub mod Bounds

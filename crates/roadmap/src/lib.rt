@@ -1,4 +1,6 @@
 //! Which place of a plan leads to which, as a table, for all that look it up.
+pub mod words;
+
 use plan::Plan;
 ghost use mathlib.Core.Path.{_≡_};
 ghost use Prim.Native.Nat.{_+_, _≤_, _<_};

@@ -1,2 +1,0 @@
--- What the looks at a graph need.
-pub mod Surveys
