@@ -101,7 +101,7 @@ extern "C" {
 ** plans of all kinds, and some to spare; then that of read_answer(), and that of
 ** check_tour().  A thread that calls them should have more, for itself.
 */
-#define PLANTOUR_STACK_BYTES       819200
+#define PLANTOUR_STACK_BYTES       131072
 #define PLANTOUR_READ_STACK_BYTES  4096
 #define PLANTOUR_CHECK_STACK_BYTES 131072
 

@@ -2,11 +2,11 @@
 
 // Prints the answer to the next plan file; false where there is none.
 fn answer_next() -> bool {
-    let mut buffer = io::large_buffer();
-    let frame = frames::next(&mut buffer);
+    let mut room = [0u8; 90240];
+    let frame = frames::next(&mut room);
     if frame.found {
         let n = frame.length;
-        console::print_answer(&buffer[..n]);
+        console::print_answer(&mut room, n);
     }
     frame.found
 }

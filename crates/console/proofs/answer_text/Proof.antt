@@ -1,5 +1,5 @@
 -- `answer_text` meets its contract: the lengths that the answer tells lie within the buffers (`told-fits`), so its places are
--- prefixes of these, and their text has room.
+-- prefixes of these, and their text has room. The plan file is the front of the same buffer, before the text goes over it.
 use Rattle.planner.proofs.Verdicts.{told-fits}
 use Rattle.io.proofs.Counting.{front}
 use native.Mathlib.Omega.{arith}
@@ -30,18 +30,20 @@ slice-aggregate-write-text-2 c = let f = told-fits _ _ _ _ _ _ (answered (c .bef
 write-text-requires : tie.Need-write-text-requires
 write-text-requires c κs =
     let told = answered (c .before .before .before) in
-    simp length-take (omega (arith, told .file-answer .kept, start told .pre))
+    simp length-take (omega (arith, told .file-answer .kept, start told .pre .1))
 
 returns : tie.Need-returns
 returns c =
-    let told = answered (c .before .before .before .before .before .before) in
-    let w = c .before .before .write-text in
-    record { answer = told .file-answer .result; told = told .file-answer .ensures; text = w .ensures .1; long = w .ensures .0 }
+    let w = c .before .before in
+    let told = answered (w .before .before .before .before) in
+    record { answer = told .file-answer .result; told = told .file-answer .ensures; text = w .write-text .ensures .1; long = w .write-text .ensures .0 }
 
 pub answer-text-spec : {M : Type 1} → statement M
 answer-text-spec =
     tie.close
     (tie.spec
+    (λ c. c .before .before .before .pre .0)
+    (λ c. front _ _ (c .before .before .before .before .pre .0))
     (λ c κs. search needs)
     (λ c. search needs)
     (λ c. search needs)
