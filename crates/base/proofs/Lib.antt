@@ -4,3 +4,4 @@ pub mod Bits
 pub mod Members
 pub mod Least
 pub mod Marks
+pub mod Sums

@@ -1,4 +1,5 @@
 pub mod Kosaraju
 pub mod Components
+pub mod Kept
 pub mod Judging
 pub mod Sweeps

@@ -10,8 +10,8 @@ use native.Mathlib.Omega.{arith}
 use lib.ListN.{length, take, drop, length-append}
 use Rattle.answer.specs.Text.{textOf}
 use Rattle.answer.specs.Sound.{Sound}
-use Rattle.planner.proofs.Bounds.{never-short}
-use Rattle.planner.proofs.Sounds.{told-sound}
+use Rattle.promise.proofs.Bounds.{never-short}
+use Rattle.promise.proofs.Sounds.{told-sound}
 use Rattle.console.specs.Printed.{Printed}
 
 module _ (plan runin loop runin′ loop′ out out′ : List ℕ) (n : ℕ) (P : Printed plan runin loop runin′ loop′ out out′ n) where

@@ -8,7 +8,7 @@ use Prim.Native.Nat.{ℕ}
 use lib.ListN.{length, take, drop}
 use Rattle.answer.specs.Text.{textOf}
 use Rattle.answer.specs.declared.Answer.{Answer}
-use Rattle.planner.specs.Promise.{AnswerTo}
+use Rattle.promise.specs.Promise.{AnswerTo}
 
 pub record Printed (plan runin loop runin′ loop′ out out′ : List ℕ) (n : ℕ) : Type 0 where
   pub answer : Answer

@@ -28,8 +28,8 @@ use Rattle.reader.specs.Reading.{readPlan}
 use Rattle.reader.specs.declared.Outcome.the-variants as outcome
 use Rattle.reader.proofs.WellRead.{read-well}
 use Rattle.answer.specs.declared.Answer.{Answer}
-use Rattle.planner.specs.Promise.{verdict, refuse, go, NoTour, TourOf, Planned, none, tour as found, Refused, Told, AnswerTo}
-use Rattle.planner.proofs.Unique.{best-unique}
+use Rattle.promise.specs.Promise.{verdict, refuse, go, NoTour, TourOf, Planned, none, tour as found, Refused, Told, AnswerTo}
+use Rattle.promise.proofs.Unique.{best-unique}
 use Rattle.moxiltra.specs.Entries.{Buffers}
 use Rattle.moxiltra.proofs.Blocks.{answered, block-exact}
 use Rattle.figures.specs.Claim.{Room, atLeast, exactly, Fits, Numbers, tour, refusal, Tells, Answers, Turned, Repeated}

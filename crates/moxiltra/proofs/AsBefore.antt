@@ -19,8 +19,8 @@ use Rattle.reader.proofs.Weights as weights
 use Rattle.reader.proofs.Doubles as doubles
 use Rattle.answer.specs.declared.Answer.{Answer}
 use Rattle.plan.proofs.Parking.{Left}
-use Rattle.planner.specs.Promise.{AnswerTo, ToldOf}
-use Rattle.planner.proofs.Parking.{ToldBefore, told-as-before}
+use Rattle.promise.specs.Promise.{AnswerTo, ToldOf}
+use Rattle.promise.proofs.Parking.{ToldBefore, told-as-before}
 use Rattle.checker.specs.Check.{CheckOf, RuledOf}
 use Rattle.checker.specs.declared.Check.{Check}
 use Rattle.checker.proofs.Parking.{RuledBefore, ruled-as-before}

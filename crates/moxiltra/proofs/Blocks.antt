@@ -27,8 +27,8 @@ use Rattle.checker.specs.Check as checked
 use Rattle.checker.specs.Check.{CheckOf}
 use Rattle.checker.specs.Block as checkBlock
 use Rattle.checker.specs.declared.Check.{Check}
-use Rattle.planner.specs.Promise.{AnswerTo}
-use Rattle.planner.proofs.Bounds.{told-narrow}
+use Rattle.promise.specs.Promise.{AnswerTo}
+use Rattle.promise.proofs.Bounds.{told-narrow}
 use Rattle.moxiltra.specs.Entries.{Buffers, buffers, ByBlock, Answered, Promise, replyTo, Replied, Reading, Checked, Checking}
 
 module _ (n : ℕ) (b b′ : Buffers) (r : ℕ) (P : Type 0) where

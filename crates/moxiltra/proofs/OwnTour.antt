@@ -22,7 +22,7 @@ use Rattle.reader.specs.declared.Outcome.{Outcome}
 use Rattle.reader.specs.declared.Outcome.the-variants as outcome
 use Rattle.answer.specs.declared.Answer.{Answer}
 use Rattle.answer.specs.Block.{answerOf}
-use Rattle.planner.specs.Promise.{AnswerTo, ToldOf, Told, verdict, refusalAnswer, TourOf, Planned, none, tour}
+use Rattle.promise.specs.Promise.{AnswerTo, ToldOf, Told, verdict, refusalAnswer, TourOf, Planned, none, tour}
 use Rattle.checker.specs.Check as checked
 use Rattle.checker.specs.Check.{CheckOf, RuledOf}
 use Rattle.checker.specs.Block as checkBlock

@@ -8,8 +8,8 @@ use native.Mathlib.Omega.{arith}
 use lib.ListN.{take}
 use Rattle.answer.specs.Text.{textOf}
 use Rattle.answer.specs.declared.Answer.{Answer}
-use Rattle.planner.specs.Promise.{AnswerTo}
-use Rattle.planner.proofs.Sounds.{told-sound}
+use Rattle.promise.specs.Promise.{AnswerTo}
+use Rattle.promise.proofs.Sounds.{told-sound}
 use Rattle.readback.specs.Reading.{readAnswer, runinOf, loopOf}
 use Rattle.readback.specs.declared.Reply.the-variants.{Read}
 use Rattle.readback.proofs.ReadsBack.{sound-read, sound-runin, sound-loop}

@@ -22,7 +22,7 @@ use Rattle.plan.specs.Refusal.{number}
 use Rattle.plan.specs.declared.Refusal.the-variants as refusal
 use Rattle.answer.specs.Block.{blockOf}
 use Rattle.answer.specs.declared.Answer.{Answer}
-use Rattle.planner.specs.Promise.{AnswerTo}
+use Rattle.promise.specs.Promise.{AnswerTo}
 use Rattle.checker.specs.Check as checked
 use Rattle.checker.specs.Check.{CheckOf}
 use Rattle.checker.specs.Block as checkBlock

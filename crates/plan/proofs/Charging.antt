@@ -1,17 +1,22 @@
 -- The loops that sum the cost and the tie of a kept byte: what holds when they have come to rule i.
 --   Summing, Tying                         == the sum over the rules before i, and that it is small
 --   ..-start, ..-step, ..-end              == they begin so, a turn keeps it, and at the end it is the whole
+--   cost-small                             == the cost of a read plan has room in its four bytes
 use mathlib.Core.Path.{_≡_, refl, ap, ap₂, _∙_}
-use mathlib.Core.Bool.{cond}
+use mathlib.Core.Bool.{Bool, true, false, cond}
 use mathlib.Core.List.{List}
 use Prim.Native.Nat.{ℕ, _+_, _*_, _≤_, _<_}
+use native.Mathlib.Nat.{le-trans}
 use native.Mathlib.Numerals.{add-one}
 use native.Mathlib.Omega.{arith}
 use lib.ListN.{getD}
 use lib.Pow.{pow-mono}
 use Rattle.base.specs.Below.{sumBelow}
+use Rattle.base.proofs.Sums.{sum-most}
 use Rattle.plan.specs.Cost.{keeps, costOf}
 use Rattle.plan.specs.Key.{tie}
+use Rattle.plan.specs.WellFormed.{WellFormed}
+use Rattle.plan.specs.declared.Plan.{Plan}
 use Rattle.plan.proofs.Ties.{tie-lt}
 
 pub record Summing (weights : List ℕ) (rules kept cost i : ℕ) : Type 0 where
@@ -60,3 +65,13 @@ tying-step rules kept t i x s h is = tying rules kept (t * 2 + x) (i + 1) (s .fe
 
 pub tying-end : (rules kept t i : ℕ) → Tying rules kept t i → rules ≤ i → (t ≡ tie rules kept) × (t < 256)
 tying-end rules kept t i s h = let e : i ≡ rules = omega (arith, s .upto) in (s .is ∙ ap (λ n. tie n kept) e, s .small)
+
+charge-le : (b : Bool) (w : ℕ) → cond b 0 w ≤ w
+charge-le true w = omega arith
+charge-le false w = omega arith
+
+pub cost-small : (p : Plan) → WellFormed p → (k : ℕ) → costOf (p .weights) (p .rules) k ≤ 32000000
+unfolding costOf
+cost-small p ok k =
+    let most = sum-most (p .rules) 4000000 (λ i. cond (keeps k i) 0 (getD (p .weights) i 0)) (λ i h. le-trans (charge-le (keeps k i) (getD (p .weights) i 0)) (ok .heavy i h)) in
+    omega (arith, ok .rules)

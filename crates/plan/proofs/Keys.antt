@@ -15,7 +15,8 @@ use lib.Pow.{pow-mono}
 use Rattle.plan.specs.Cost.{keeps, cost, costOf, Better}
 use Rattle.plan.specs.Key.{tie, key, keyOf}
 use Rattle.plan.specs.declared.Plan.{Plan}
-use Rattle.plan.proofs.Sums.{sum-le, kept-ext}
+use Rattle.base.proofs.Sums.{sum-le}
+use Rattle.plan.proofs.Sums.{kept-ext}
 use Rattle.plan.proofs.Ties.{tie-lt, agree-tie, first-tie, tie-first, Within, cond-mono, tie-mono, tie-strict}
 
 module _ (weights : List ℕ) (n : ℕ) where

@@ -1,5 +1,4 @@
 -- Laws of sums and of kept bytes.
---   sum-le                     == a sum of smaller terms is smaller
 --   sum-change                 == a sum in which one term is another
 --   keeps-bit                  == equal tests of two kept bytes, equal bits
 --   kept-ext                   == kept bytes below 2 ^ n that agree on n rules are equal
@@ -10,13 +9,9 @@ use native.Mathlib.Omega.{arith}
 use borrow.Author.Tests.{eqb-true, eq-eqb}
 use Rattle.base.specs.Below.{sumBelow}
 use Rattle.base.specs.Bits.{bit}
+use Rattle.base.proofs.Sums.{sum-le}
 use Rattle.base.proofs.Bits.{bit-lt, bit-ext, bit-high}
 use Rattle.plan.specs.Cost.{keeps}
-
-pub sum-le : (n : ℕ) (f g : ℕ → ℕ) → ((i : ℕ) → i < n → f i ≤ g i) → sumBelow n f ≤ sumBelow n g
-unfolding sumBelow
-sum-le zero f g h = omega arith
-sum-le (suc n) f g h = omega (arith, sum-le n f g (λ i l. h i (omega arith)), h n (omega arith))
 
 pub sum-change : (n u : ℕ) (f g : ℕ → ℕ) → u < n → ((i : ℕ) → (i ≡ u → ⊥) → g i ≡ f i) → sumBelow n g + f u ≡ sumBelow n f + g u
 unfolding sumBelow

@@ -26,7 +26,8 @@ use Rattle.plan.specs.WellFormed.{soft, weight}
 use Rattle.plan.specs.Tour.{joins, word, IsLasso, Soft}
 use Rattle.plan.specs.Cost.{keeps, cost, costOf, First, Better, Best}
 use Rattle.plan.specs.declared.Plan.{Plan}
-use Rattle.plan.proofs.Sums.{sum-le, kept-ext}
+use Rattle.base.proofs.Sums.{sum-le}
+use Rattle.plan.proofs.Sums.{kept-ext}
 use Rattle.plan.proofs.Ties.{Agree}
 
 abbrev pub Apart : Plan → ℕ → ℕ → Type 0

@@ -1,6 +1,6 @@
 -- `answer_text` meets its contract: the lengths that the answer tells lie within the buffers (`told-fits`), so its places are
 -- prefixes of these, and their text has room. The plan file is the front of the same buffer, before the text goes over it.
-use Rattle.planner.proofs.Verdicts.{told-fits}
+use Rattle.promise.proofs.Verdicts.{told-fits}
 use Rattle.io.proofs.Counting.{front}
 use native.Mathlib.Omega.{arith}
 use lib.ListN.{length-take}

@@ -2,7 +2,7 @@
 use native.Mathlib.Omega.{arith}
 use Rattle.reader.proofs.Answers.{refused-early}
 use Rattle.reader.proofs.WellRead.{read-ok}
-use Rattle.planner.proofs.Verdicts.{read-told, refused-told}
+use Rattle.promise.proofs.Verdicts.{read-told, refused-told}
 use borrow.Author.Needs.{needs}
 use Rattle.planner.proofs.file_answer.Statement.{statement}
 use Rattle.planner.proofs.file_answer.Tie as tie

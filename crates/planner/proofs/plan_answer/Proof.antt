@@ -4,7 +4,7 @@ use Prim.Native.Nat.{_+_, _≤_}
 use native.Mathlib.Omega.{arith}
 use native.Mathlib.Nat.{mul-le-mul-right}
 use Rattle.plan.proofs.Products.{sized-small, sized-nodes}
-use Rattle.planner.proofs.Verdicts.{too-large, short-runin, short-loop, roomy-planned}
+use Rattle.promise.proofs.Verdicts.{too-large, short-runin, short-loop, roomy-planned}
 use borrow.Author.Needs.{needs}
 use Rattle.planner.proofs.plan_answer.Statement.{statement}
 use Rattle.planner.proofs.plan_answer.Tie as tie
@@ -37,8 +37,8 @@ returns-3 c =
     let e = small (c .before .before) in let h = e .before in let a = start h .args in
     short-loop (a .p) (h .size-of .ensures) (a .runin .now) (a .cycle .now) _ (e .if1 .left) (c .before .if3 .taken) (c .refusal-answer3 .ensures)
 
-plan-in-room-requires : tie.Need-plan-in-room-requires
-plan-in-room-requires c κs =
+solve-requires : tie.Need-solve-requires
+solve-requires c κs =
     let loop = c .before .before in let e = small (loop .before) in let S = e .before .size-of .ensures in (
       record { ok = start (e .before) .pre; small = sized-small S (e .if1 .left); count = sized-nodes S (e .if1 .left) },
       record { stem = loop .before .before .if2 .left; cycle = omega (arith, loop .if3 .left) },
@@ -48,7 +48,7 @@ returns-4 : tie.Need-returns-4
 returns-4 c =
     let room = c .before .before .before .before in let loop = room .before .before .before in let e = small (loop .before) in let h = e .before in
     roomy-planned (start h .args .p) (h .size-of .ensures) _ _ _ (e .if1 .left) _ _ (loop .before .before .if2 .left) (loop .if3 .left)
-    (room .plan-in-room .ensures)
+    (room .solve .ensures)
 
 pub plan-answer-spec : {M : Type 1} → statement M
 plan-answer-spec =
@@ -64,7 +64,7 @@ plan-answer-spec =
     mul-if3
     (λ c κs. search needs)
     returns-3
-    plan-in-room-requires
+    solve-requires
     (λ c. search needs)
     (λ c. search needs)
     returns-4)
