@@ -1,5 +1,3 @@
--- From what the parts ensure to what is promised.
-pub mod Bridge
-pub mod Made
+-- What the parts ask of one another.
 pub mod Steps
 pub mod Desks
