@@ -42,21 +42,7 @@ pub enum Shape {
     Tiny,
 }
 
-/// The large ones that the comparison has.
-pub const SHAPES: [Shape; 10] = [
-    Shape::Wide,
-    Shape::Chain,
-    Shape::Rules,
-    Shape::Dense,
-    Shape::Sparse,
-    Shape::Fan,
-    Shape::Beads,
-    Shape::Laps,
-    Shape::Barren,
-    Shape::Mixed,
-];
-
-/// Those that are timed.
+/// Those that are timed, the large ones first.
 pub const TIMED: [Shape; 13] = [
     Shape::Wide,
     Shape::Chain,
@@ -72,6 +58,12 @@ pub const TIMED: [Shape; 13] = [
     Shape::Little,
     Shape::Tiny,
 ];
+
+/// The large ones that the comparison has.
+pub const SHAPES: [Shape; 10] = match TIMED.first_chunk() {
+    Some(shapes) => *shapes,
+    None => panic!(),
+};
 
 impl Shape {
     pub fn name(self) -> &'static str {
