@@ -8,9 +8,9 @@ use mathlib.Core.List.{List}
 use Prim.Native.Nat.{ℕ, suc, ◌<◌}
 use native.Mathlib.Omega.{arith}
 use lib.ListN.{length}
-use Rattle.automata.specs.Automaton.{step, trapStep, final}
+use Rattle.automata.specs.Automaton.{step, trap_step, final}
 use Rattle.automata.specs.WellFormed.{Below}
-use Rattle.automata.specs.Acceptance.{Accepting, HardAccepts, SoftAccepts, lassoAt}
+use Rattle.automata.specs.Acceptance.{Accepting, HardAccepts, SoftAccepts, lasso_at}
 use Rattle.automata.specs.declared.Automaton.{Automaton}
 use Rattle.automata.proofs.Traps.{step-lands, trap-lands}
 use Rattle.acceptance.specs.Decision.{decided}
@@ -44,18 +44,18 @@ module _ (δ : ℕ → ℕ → ℕ → Bool) (label : ℕ → ℕ) {q₀ : ℕ} 
 
 module _ (a : Automaton) (label : ℕ → ℕ) (stem cycle : List ℕ) (first : a.first < a.states) (below : Below a.states a.to) where
   pub hard-decided : (decided (λ v. step a (label v)) a.states a.first (final a) stem cycle ≡ true)
-      ↔ HardAccepts a (λ t. label (lassoAt stem cycle t)) (length stem) (length cycle)
+      ↔ HardAccepts a (λ t. label (lasso_at stem cycle t)) (length stem) (length cycle)
   hard-decided = (
     λ h. labelled (step a) label (decided-accepts (λ v. step a (label v)) a.states a.first (final a) stem cycle h),
     λ A. accepts-decided (λ v. step a (label v)) a.states a.first (final a) stem cycle first (λ v q r h. step-lands a (label v) below q r h)
         (unlabelled (step a) label A),
   )
 
-  pub soft-decided : (decided (λ v. trapStep a (label v)) (suc a.states) a.first (final a) stem cycle ≡ true)
-      ↔ SoftAccepts a (λ t. label (lassoAt stem cycle t)) (length stem) (length cycle)
+  pub soft-decided : (decided (λ v. trap_step a (label v)) (suc a.states) a.first (final a) stem cycle ≡ true)
+      ↔ SoftAccepts a (λ t. label (lasso_at stem cycle t)) (length stem) (length cycle)
   soft-decided = (
-    λ h. labelled (trapStep a) label (decided-accepts (λ v. trapStep a (label v)) (suc a.states) a.first (final a) stem cycle h),
-    λ A. accepts-decided (λ v. trapStep a (label v)) (suc a.states) a.first (final a) stem cycle (omega arith)
+    λ h. labelled (trap_step a) label (decided-accepts (λ v. trap_step a (label v)) (suc a.states) a.first (final a) stem cycle h),
+    λ A. accepts-decided (λ v. trap_step a (label v)) (suc a.states) a.first (final a) stem cycle (omega arith)
         (λ v q r h. omega (arith, trap-lands a (label v) below q r h))
-        (unlabelled (trapStep a) label A),
+        (unlabelled (trap_step a) label A),
   )

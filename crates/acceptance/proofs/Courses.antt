@@ -17,11 +17,11 @@ use lib.Seq.{drop-cons, drop-length, get_or-take, get_or-drop}
 use lib.Bits.{bit_and, bit_or, and_le_l, or_lt}
 use lib.Arith.{digits_div}
 use lib.Dec.{eqb}
-use Rattle.base.specs.Below.{anyBelow}
-use Rattle.base.specs.Bits.{bit, hasBit, Members}
+use Rattle.base.specs.Below.{any_below}
+use Rattle.base.specs.Bits.{bit, has_bit, Members}
 use Rattle.acceptance.specs.Decision.{after, turn}
-use Rattle.acceptance.specs.Table.{stepIn, Narrow, Word, Turned}
-use Rattle.acceptance.specs.Sets.{metAfter, ledBy, Tabled, Begun, Ending, Course, Going, Worded, Stored, StoredFour}
+use Rattle.acceptance.specs.Table.{step_in, Narrow, Word, Turned}
+use Rattle.acceptance.specs.Sets.{met_after, led_by, Tabled, Begun, Ending, Course, Going, Worded, Stored, StoredFour}
 use Rattle.base.proofs.Tests.{bool_same, any-intro, any-elim, and_left, and_right}
 use Rattle.base.proofs.Bits.{bit-block, bit-div}
 use Rattle.base.proofs.Members.{has-or, has-and, members-one, members-lt}
@@ -45,115 +45,115 @@ pub one_byte : (q n one : ℕ) → n ≤ 8 → q < n → one ≡ 2 ^ q → one <
 one_byte q n one few l e = rw e (power-lt q 8 (omega arith))
 
 module _ (steps : List ℕ) (n : ℕ) (few : n ≤ 8) (narrow : Narrow n steps) where
-  pub led-below : (v x r : ℕ) → x < 2 ^ n → ledBy steps v x r ≡ anyBelow n (λ q. hasBit x q && stepIn steps v q r)
-  unfolding ledBy
+  pub led-below : (v x r : ℕ) → x < 2 ^ n → led_by steps v x r ≡ any_below n (λ q. has_bit x q && step_in steps v q r)
+  unfolding led_by
   led-below v x r small = bool_same _ _ there back
     where
-      there : anyBelow 8 (λ q. hasBit x q && stepIn steps v q r) ≡ true → anyBelow n (λ q. hasBit x q && stepIn steps v q r) ≡ true
+      there : any_below 8 (λ q. has_bit x q && step_in steps v q r) ≡ true → any_below n (λ q. has_bit x q && step_in steps v q r) ≡ true
       there h =
-          let f = any-elim (λ q. hasBit x q && stepIn steps v q r) 8 h in
-          any-intro (λ q. hasBit x q && stepIn steps v q r) n f.0 (inside n x f.0 small (and_left _ _ f.2)) f.2
+          let f = any-elim (λ q. has_bit x q && step_in steps v q r) 8 h in
+          any-intro (λ q. has_bit x q && step_in steps v q r) n f.0 (inside n x f.0 small (and_left _ _ f.2)) f.2
 
-      back : anyBelow n (λ q. hasBit x q && stepIn steps v q r) ≡ true → anyBelow 8 (λ q. hasBit x q && stepIn steps v q r) ≡ true
+      back : any_below n (λ q. has_bit x q && step_in steps v q r) ≡ true → any_below 8 (λ q. has_bit x q && step_in steps v q r) ≡ true
       back h =
-          let f = any-elim (λ q. hasBit x q && stepIn steps v q r) n h in
-          any-intro (λ q. hasBit x q && stepIn steps v q r) 8 f.0 (omega (arith, f.1)) f.2
+          let f = any-elim (λ q. has_bit x q && step_in steps v q r) n h in
+          any-intro (λ q. has_bit x q && step_in steps v q r) 8 f.0 (omega (arith, f.1)) f.2
 
-  led-small : (v x y : ℕ) → Members y (ledBy steps v x) → y < 2 ^ n
-  unfolding ledBy
-  led-small v x y m = members-lt n y m (λ i l. none i l (ledBy steps v x i) refl)
+  led-small : (v x y : ℕ) → Members y (led_by steps v x) → y < 2 ^ n
+  unfolding led_by
+  led-small v x y m = members-lt n y m (λ i l. none i l (led_by steps v x i) refl)
     where
-      none : (i : ℕ) → n ≤ i → (b : Bool) → ledBy steps v x i ≡ b → ledBy steps v x i ≡ false
+      none : (i : ℕ) → n ≤ i → (b : Bool) → led_by steps v x i ≡ b → led_by steps v x i ≡ false
       none i l false e = e
       none i l true e =
-          let f = any-elim (λ q. hasBit x q && stepIn steps v q i) 8 e in
-          absurd (omega (arith, l, narrow-lands n steps narrow v f.0 i (and_right (hasBit x f.0) _ f.2)))
+          let f = any-elim (λ q. has_bit x q && step_in steps v q i) 8 e in
+          absurd (omega (arith, l, narrow-lands n steps narrow v f.0 i (and_right (has_bit x f.0) _ f.2)))
 
   pub byte : (x : ℕ) → x < 2 ^ n → x < 256
   byte x h = let e : 2 ^ n ≤ 2 ^ 8 = pow-le-pow_right (omega arith) {i = n} {j = 8} few in omega (arith, h, e)
 
   -- what the table says of a set
   pub looked : (places v x y : ℕ) (sets : List ℕ) → v < places → Tabled steps n places 0 sets → x < 2 ^ n → y ≡ get_or sets (v * 256 + x) 0
-      → Members y (ledBy steps v x)
+      → Members y (led_by steps v x)
   looked places v x y sets known t small e = rw e (t.places v x known small)
 
   module _ (vs : List ℕ) (q : ℕ) where
     pub ending-start : (ends : ℕ) → q < n → ends ≡ 2 ^ q → Ending steps n vs q 0 ends
     ending-start ends l e = record {
       small = rw e (power-lt q n l);
-      whole = λ r. after_same (stepIn steps) n vs (hasBit ends) (eqb q) (λ s. ap (λ m. hasBit m s) e ∙ (members-one q).has s) r;
+      whole = λ r. after_same (step_in steps) n vs (has_bit ends) (eqb q) (λ s. ap (λ m. has_bit m s) e ∙ (members-one q).has s) r;
     }
 
-    on : (v ends ends' : ℕ) → ends < 2 ^ n → Members ends' (ledBy steps v ends) → (s : ℕ)
-        → hasBit ends' s ≡ anyBelow n (λ p. hasBit ends p && stepIn steps v p s)
+    on : (v ends ends' : ℕ) → ends < 2 ^ n → Members ends' (led_by steps v ends) → (s : ℕ)
+        → has_bit ends' s ≡ any_below n (λ p. has_bit ends p && step_in steps v p s)
     on v ends ends' small m s = m.has s ∙ led-below v ends s small
 
-    pub ending-step : (i ends ends' : ℕ) → i < length vs → Ending steps n vs q i ends → Members ends' (ledBy steps (get_or vs i 0) ends)
+    pub ending-step : (i ends ends' : ℕ) → i < length vs → Ending steps n vs q i ends → Members ends' (led_by steps (get_or vs i 0) ends)
         → Ending steps n vs q (i + 1) ends'
     unfolding after
     ending-step i ends ends' l c m = record {
       small = led-small (get_or vs i 0) ends ends' m;
       whole = λ r.
-          ap (λ ws. after (stepIn steps) n ws (hasBit ends') r) (ap (λ j. drop j vs) (add-one i))
-          ∙ after_same (stepIn steps) n (drop (suc i) vs) (hasBit ends') _ (on (get_or vs i 0) ends ends' c.small m) r
-          ∙ ap (λ ws. after (stepIn steps) n ws (hasBit ends) r) (sym (drop-cons vs i 0 l)) ∙ c.whole r;
+          ap (λ ws. after (step_in steps) n ws (has_bit ends') r) (ap (λ j. drop j vs) (add-one i))
+          ∙ after_same (step_in steps) n (drop (suc i) vs) (has_bit ends') _ (on (get_or vs i 0) ends ends' c.small m) r
+          ∙ ap (λ ws. after (step_in steps) n ws (has_bit ends) r) (sym (drop-cons vs i 0 l)) ∙ c.whole r;
     }
 
-    pub ending-end : (i ends : ℕ) → i ≡ length vs → Ending steps n vs q i ends → Members ends (after (stepIn steps) n vs (eqb q))
+    pub ending-end : (i ends : ℕ) → i ≡ length vs → Ending steps n vs q i ends → Members ends (after (step_in steps) n vs (eqb q))
     unfolding after
     ending-end i ends e c =
-        record { has = λ r. ap (λ ws. after (stepIn steps) n ws (hasBit ends) r) (sym (ap (λ i. drop i vs) e ∙ drop-length vs)) ∙ c.whole r }
+        record { has = λ r. ap (λ ws. after (step_in steps) n ws (has_bit ends) r) (sym (ap (λ i. drop i vs) e ∙ drop-length vs)) ∙ c.whole r }
 
   module _ (accept : ℕ) (vs : List ℕ) (q : ℕ) where
     pub course-start : (ends good : ℕ) → q < n → ends ≡ 2 ^ q → good ≡ bit_and (2 ^ q) accept → Course steps n accept vs q 0 ends good
     course-start ends good l e g = record {
       reach = ending-start vs q ends l e;
       good-small = rw g (omega (arith, power-lt q n l, and_le_l (2 ^ q) accept));
-      good-whole = λ r. met-same (stepIn steps) n (hasBit accept) vs (hasBit ends) (eqb q) (hasBit good) (λ s. hasBit accept s && eqb q s) own both r;
+      good-whole = λ r. met-same (step_in steps) n (has_bit accept) vs (has_bit ends) (eqb q) (has_bit good) (λ s. has_bit accept s && eqb q s) own both r;
     }
       where
-        own : (s : ℕ) → hasBit ends s ≡ eqb q s
-        own s = ap (λ m. hasBit m s) e ∙ (members-one q).has s
+        own : (s : ℕ) → has_bit ends s ≡ eqb q s
+        own s = ap (λ m. has_bit m s) e ∙ (members-one q).has s
 
-        both : (s : ℕ) → hasBit good s ≡ (hasBit accept s && eqb q s)
+        both : (s : ℕ) → has_bit good s ≡ (has_bit accept s && eqb q s)
         both s =
-            ap (λ m. hasBit m s) g ∙ has-and (2 ^ q) accept s ∙ ap (λ b. b && hasBit accept s) ((members-one q).has s)
-            ∙ and_comm (eqb q s) (hasBit accept s)
+            ap (λ m. has_bit m s) g ∙ has-and (2 ^ q) accept s ∙ ap (λ b. b && has_bit accept s) ((members-one q).has s)
+            ∙ and_comm (eqb q s) (has_bit accept s)
 
     pub course-step : (i ends good ends' led good' : ℕ) → i < length vs → Course steps n accept vs q i ends good
-        → Members ends' (ledBy steps (get_or vs i 0) ends) → Members led (ledBy steps (get_or vs i 0) good) → good' ≡ bit_or led (bit_and ends' accept)
+        → Members ends' (led_by steps (get_or vs i 0) ends) → Members led (led_by steps (get_or vs i 0) good) → good' ≡ bit_or led (bit_and ends' accept)
         → Course steps n accept vs q (i + 1) ends' good'
-    unfolding metAfter
+    unfolding met_after
     course-step i ends good ends' led good' l c m k g = record {
       reach = ending-step vs q i ends ends' l c.reach m;
       good-small =
           rw g (or_lt n led (bit_and ends' accept) (led-small (get_or vs i 0) good led k)
           (omega (arith, led-small (get_or vs i 0) ends ends' m, and_le_l ends' accept)));
       good-whole = λ r.
-          ap (λ ws. metAfter (stepIn steps) n (hasBit accept) ws (hasBit ends') (hasBit good') r) (ap (λ j. drop j vs) (add-one i))
-          ∙ met-same (stepIn steps) n (hasBit accept) (drop (suc i) vs) (hasBit ends') _ (hasBit good') _ (on vs q (get_or vs i 0) ends ends' c.reach.small m) up r
-          ∙ ap (λ ws. metAfter (stepIn steps) n (hasBit accept) ws (hasBit ends) (hasBit good) r) (sym (drop-cons vs i 0 l)) ∙ c.good-whole r;
+          ap (λ ws. met_after (step_in steps) n (has_bit accept) ws (has_bit ends') (has_bit good') r) (ap (λ j. drop j vs) (add-one i))
+          ∙ met-same (step_in steps) n (has_bit accept) (drop (suc i) vs) (has_bit ends') _ (has_bit good') _ (on vs q (get_or vs i 0) ends ends' c.reach.small m) up r
+          ∙ ap (λ ws. met_after (step_in steps) n (has_bit accept) ws (has_bit ends) (has_bit good) r) (sym (drop-cons vs i 0 l)) ∙ c.good-whole r;
     }
       where
-        up : (s : ℕ) → hasBit good' s ≡ (anyBelow n (λ p. hasBit good p && stepIn steps (get_or vs i 0) p s)
-            || (hasBit accept s && anyBelow n (λ p. hasBit ends p && stepIn steps (get_or vs i 0) p s)))
+        up : (s : ℕ) → has_bit good' s ≡ (any_below n (λ p. has_bit good p && step_in steps (get_or vs i 0) p s)
+            || (has_bit accept s && any_below n (λ p. has_bit ends p && step_in steps (get_or vs i 0) p s)))
         up s =
-            ap (λ m. hasBit m s) g ∙ has-or led (bit_and ends' accept) s
+            ap (λ m. has_bit m s) g ∙ has-or led (bit_and ends' accept) s
             ∙ ap₂ ◌||◌ (on vs q (get_or vs i 0) good led c.good-small k s)
-            (has-and ends' accept s ∙ and_comm (hasBit ends' s) (hasBit accept s)
-            ∙ ap (λ b. hasBit accept s && b) (on vs q (get_or vs i 0) ends ends' c.reach.small m s))
+            (has-and ends' accept s ∙ and_comm (has_bit ends' s) (has_bit accept s)
+            ∙ ap (λ b. has_bit accept s && b) (on vs q (get_or vs i 0) ends ends' c.reach.small m s))
 
     pub course-end : (i ends good w : ℕ) → q < n → i ≡ length vs → Course steps n accept vs q i ends good → w ≡ ends + good * 2 ^ 32
-        → Word (stepIn steps) n (hasBit accept) vs q w
-    unfolding metAfter
+        → Word (step_in steps) n (has_bit accept) vs q w
+    unfolding met_after
     course-end i ends good w l e c d = record {
-      turned = λ r h. low r h ∙ (ending-end vs q i ends e c.reach).has r ∙ after_turn (stepIn steps) n (narrow-lands n steps narrow) vs q r l;
-      met = λ r h. high r ∙ good-ended r ∙ c.good-whole r ∙ met-meet (stepIn steps) n (hasBit accept) (narrow-lands n steps narrow) vs q r l;
+      turned = λ r h. low r h ∙ (ending-end vs q i ends e c.reach).has r ∙ after_turn (step_in steps) n (narrow-lands n steps narrow) vs q r l;
+      met = λ r h. high r ∙ good-ended r ∙ c.good-whole r ∙ met-meet (step_in steps) n (has_bit accept) (narrow-lands n steps narrow) vs q r l;
     }
       where
-        good-ended : (r : ℕ) → hasBit good r ≡ metAfter (stepIn steps) n (hasBit accept) (drop i vs) (hasBit ends) (hasBit good) r
+        good-ended : (r : ℕ) → has_bit good r ≡ met_after (step_in steps) n (has_bit accept) (drop i vs) (has_bit ends) (has_bit good) r
         good-ended r =
-            ap (λ ws. metAfter (stepIn steps) n (hasBit accept) ws (hasBit ends) (hasBit good) r) (sym (ap (λ i. drop i vs) e ∙ drop-length vs))
+            ap (λ ws. met_after (step_in steps) n (has_bit accept) ws (has_bit ends) (has_bit good) r) (sym (ap (λ i. drop i vs) e ∙ drop-length vs))
 
         split : w ≡ good * 2 ^ 32 + ends
         split = omega (arith, d)
@@ -161,10 +161,10 @@ module _ (steps : List ℕ) (n : ℕ) (few : n ≤ 8) (narrow : Narrow n steps) 
         half : ends < 2 ^ 32
         half = let e : 2 ^ n ≤ 2 ^ 32 = pow-le-pow_right (omega arith) {i = n} {j = 32} (omega arith) in omega (arith, c.reach.small, e)
 
-        low : (r : ℕ) → r < 32 → hasBit w r ≡ hasBit ends r
+        low : (r : ℕ) → r < 32 → has_bit w r ≡ has_bit ends r
         low r h = ap (λ b. eqb b 1) (ap (λ m. bit m r) split ∙ bit-block 32 good ends r h)
 
-        high : (r : ℕ) → hasBit w (32 + r) ≡ hasBit good r
+        high : (r : ℕ) → has_bit w (32 + r) ≡ has_bit good r
         high r = ap (λ b. eqb b 1) (sym (bit-div 32 w r) ∙ ap (λ m. bit m r) (ap (λ m. m / 2 ^ 32) split ∙ digits_div good half))
 
     -- a state that there may not be
@@ -183,7 +183,7 @@ module _ (steps : List ℕ) (n : ℕ) (few : n ≤ 8) (narrow : Narrow n steps) 
     }
 
     pub going_end : (i ends good w : ℕ) → i ≡ length vs → Going steps n accept vs q i ends good → w ≡ ends + good * 2 ^ 32 → q < n
-        → Word (stepIn steps) n (hasBit accept) vs q w
+        → Word (step_in steps) n (has_bit accept) vs q w
     going_end i ends good w e g d l = course-end i ends good w l e (g.course l) d
 
 -- the part of the sets that belongs to one place
@@ -198,10 +198,10 @@ pub worded-turned : (steps : List ℕ) (n accept : ℕ) (vs old new : List ℕ) 
     → Worded steps n accept vs q a b c d → StoredFour old q n a b c d new → Turned steps n accept vs (min (q + 4) n) new
 worded-turned steps n accept vs old new q a b c d t w s = record { word = λ p l. at p l (dec_lt p q) (ℕ_discrete p q) (ℕ_discrete p (q + 1)) (ℕ_discrete p (q + 2)) }
   where
-    put : (p v x : ℕ) → p ≡ v → get_or new v 0 ≡ x → Word (stepIn steps) n (hasBit accept) vs v x → Word (stepIn steps) n (hasBit accept) vs p (get_or new p 0)
+    put : (p v x : ℕ) → p ≡ v → get_or new v 0 ≡ x → Word (step_in steps) n (has_bit accept) vs v x → Word (step_in steps) n (has_bit accept) vs p (get_or new p 0)
     put p v x e f k = rw (e, f) k
 
-    at : (p : ℕ) → p < min (q + 4) n → Dec (p < q) → Dec (p ≡ q) → Dec (p ≡ q + 1) → Dec (p ≡ q + 2) → Word (stepIn steps) n (hasBit accept) vs p (get_or new p 0)
+    at : (p : ℕ) → p < min (q + 4) n → Dec (p < q) → Dec (p ≡ q) → Dec (p ≡ q + 1) → Dec (p ≡ q + 2) → Word (step_in steps) n (has_bit accept) vs p (get_or new p 0)
     at p l (yes h) _ _ _ = rw (s.before p h) (t.word p (omega arith))
     at p l (no h) (yes e) _ _ = let m : q < n = omega arith in put p q a e (s.put_a m) (w.word-a m)
     at p l (no h) (no e) (yes f) _ = let m : q + 1 < n = omega arith in put p (q + 1) b f (s.put_b m) (w.word-b m)

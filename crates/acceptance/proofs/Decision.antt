@@ -14,9 +14,9 @@ use native.Mathlib.Omega.{arith}
 use borrow.Author.Tests.{eq-eqb, eqb-true}
 use lib.ListN.{length}
 use lib.Dec.{eqb}
-use Rattle.base.specs.Below.{anyBelow}
+use Rattle.base.specs.Below.{any_below}
 use Rattle.base.proofs.Tests.{any-intro, any-elim, and_intro, and_left, and_right}
-use Rattle.automata.specs.Acceptance.{Accepting, lassoAt}
+use Rattle.automata.specs.Acceptance.{Accepting, lasso_at}
 use Rattle.automata.proofs.Lassos.{lasso-stem, lasso-cycle}
 use Rattle.acceptance.specs.Decision.{after, turn, meet, turns, decided}
 use Rattle.acceptance.proofs.Stretches.{Stretch, Meeting, stretch-none, stretch-same, stretch-join, meeting-same, meeting-join, accepting-join}
@@ -34,13 +34,13 @@ loop-later : (cycle : List ℕ) (c t : ℕ) → loop cycle (c * length cycle + t
 loop-later cycle c t = ap (word cycle) (mul-add-mod_self_right c (length cycle) t)
 
 -- past the run-in, and past it and a turns
-lasso-loop : (stem cycle : List ℕ) (t : ℕ) → lassoAt stem cycle (length stem + t) ≡ loop cycle t
+lasso-loop : (stem cycle : List ℕ) (t : ℕ) → lasso_at stem cycle (length stem + t) ≡ loop cycle t
 lasso-loop stem cycle t = lasso-cycle stem cycle (length stem + t) (omega arith) ∙ ap (loop cycle) (add-sub_cancel_left (length stem) t)
 
-lasso-later : (stem cycle : List ℕ) (a t : ℕ) → lassoAt stem cycle (length stem + a * length cycle + t) ≡ loop cycle t
+lasso-later : (stem cycle : List ℕ) (a t : ℕ) → lasso_at stem cycle (length stem + a * length cycle + t) ≡ loop cycle t
 lasso-later stem cycle a t =
     let e : length stem + a * length cycle + t ≡ length stem + (a * length cycle + t) = omega arith in
-    ap (lassoAt stem cycle) e ∙ lasso-loop stem cycle (a * length cycle + t) ∙ loop-later cycle a t
+    ap (lasso_at stem cycle) e ∙ lasso-loop stem cycle (a * length cycle + t) ∙ loop-later cycle a t
 
 module _ (δ : ℕ → ℕ → ℕ → Bool) (n q₀ : ℕ) (F : ℕ → Bool) (stem cycle : List ℕ) where
   abbrev r : ℕ
@@ -50,7 +50,7 @@ module _ (δ : ℕ → ℕ → ℕ → Bool) (n q₀ : ℕ) (F : ℕ → Bool) (
   l = length cycle
 
   abbrev w : ℕ → ℕ
-  w = lassoAt stem cycle
+  w = lasso_at stem cycle
 
   -- some turns of the loop
   abbrev Turned : ℕ → ℕ → Type 0
@@ -77,7 +77,7 @@ module _ (δ : ℕ → ℕ → ℕ → Bool) (n q₀ : ℕ) (F : ℕ → Bool) (
   abbrev back : ℕ → ℕ → Bool
   back s t = meet δ n F cycle s t && turns δ n cycle t s
 
-  reached-stretch : (s : ℕ) → anyBelow n (reached s) ≡ true → (a : ℕ) × Stretch δ w (r + a * l) q₀ s
+  reached-stretch : (s : ℕ) → any_below n (reached s) ≡ true → (a : ℕ) × Stretch δ w (r + a * l) q₀ s
   reached-stretch s h =
       let p = any-elim (reached s) n h in
       let A = after-stretch δ n stem (eqb q₀) p.0 (and_left (after δ n stem (eqb q₀) p.0) (turns δ n cycle p.0 s) p.2) in
@@ -87,7 +87,7 @@ module _ (δ : ℕ → ℕ → ℕ → Bool) (n q₀ : ℕ) (F : ℕ → Bool) (
       let T' = stretch-same refl (λ t h. sym (lasso-loop stem cycle t)) T.1 in
       (T.0, stretch-join S' T')
 
-  back-meeting : (s : ℕ) → anyBelow n (back s) ≡ true → (b : ℕ) × (1 ≤ b) × Meeting δ F (loop cycle) (b * l) s s
+  back-meeting : (s : ℕ) → any_below n (back s) ≡ true → (b : ℕ) × (1 ≤ b) × Meeting δ F (loop cycle) (b * l) s s
   back-meeting s h =
       let t = any-elim (back s) n h in
       let M = meet-meeting δ n F cycle s t.0 (and_left (meet δ n F cycle s t.0) (turns δ n cycle t.0 s) t.2) in
@@ -96,12 +96,12 @@ module _ (δ : ℕ → ℕ → ℕ → Bool) (n q₀ : ℕ) (F : ℕ → Bool) (
       let J = meeting-join N (stretch-same refl (λ t h. sym (loop-later cycle 1 t)) T.1) in
       (suc T.0, omega arith, meeting-same (omega arith) (λ t h. refl) J)
 
-  pub decided-accepts : decided δ n q₀ F stem cycle ≡ true → Accepting δ q₀ F (lassoAt stem cycle) (length stem) (length cycle)
+  pub decided-accepts : decided δ n q₀ F stem cycle ≡ true → Accepting δ q₀ F (lasso_at stem cycle) (length stem) (length cycle)
   unfolding decided
   decided-accepts h =
-      let s = any-elim (λ s. anyBelow n (reached s) && anyBelow n (back s)) n h in
-      let S = reached-stretch s.0 (and_left (anyBelow n (reached s.0)) (anyBelow n (back s.0)) s.2) in
-      let M = back-meeting s.0 (and_right (anyBelow n (reached s.0)) (anyBelow n (back s.0)) s.2) in
+      let s = any-elim (λ s. any_below n (reached s) && any_below n (back s)) n h in
+      let S = reached-stretch s.0 (and_left (any_below n (reached s.0)) (any_below n (back s.0)) s.2) in
+      let M = back-meeting s.0 (and_right (any_below n (reached s.0)) (any_below n (back s.0)) s.2) in
       accepting-join r l S.0 M.0 M.1 S.1 (meeting-same refl (λ t h. sym (lasso-later stem cycle S.0 t)) M.2)
 
   module _ (first : q₀ < n) (lands : (v q r : ℕ) → δ v q r ≡ true → r < n) (A : Accepting δ q₀ F w r l) where
@@ -181,6 +181,6 @@ module _ (δ : ℕ → ℕ → ℕ → Bool) (n q₀ : ℕ) (F : ℕ → Bool) (
         let s : ℕ = state j in
         let there = stretch-after δ n lands stem (eqb q₀) q₀ (state 0) first (eq-eqb q₀ q₀ refl) stem-cut in
         let met = met_at A.accepts.0 j m.2 m.3 m.4 A.accepts.3 in
-        any-intro (λ s. anyBelow n (reached s) && anyBelow n (back s)) n s (inside-state j (omega arith))
+        any-intro (λ s. any_below n (reached s) && any_below n (back s)) n s (inside-state j (omega arith))
         (and_intro (any-intro (reached s) n (state 0) (inside-state 0 (omega arith)) (and_intro there (turns_at 0 j (omega arith) (omega arith))))
         (any-intro (back s) n (state (suc j)) (inside-state (suc j) m.2) (and_intro met (home j m.1 m.2))))

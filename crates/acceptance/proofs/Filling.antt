@@ -16,8 +16,8 @@ use borrow.Author.Count.{below_none, below_more}
 use borrow.Author.Tests.{eqb-true, eq-eqb}
 use lib.ListN.{length, get_or, set, replicate}
 use lib.Seq.{get_or-set_same, get_or-set_other}
-use Rattle.base.specs.Below.{anyBelow}
-use Rattle.base.specs.Bits.{hasBit, Members}
+use Rattle.base.specs.Below.{any_below}
+use Rattle.base.specs.Bits.{has_bit, Members}
 use Rattle.base.proofs.Tests.{bool_same, any-intro, any-elim, and_intro, and_left, and_right}
 use Rattle.base.proofs.Members.{members-one, members-same, members-lt}
 use Rattle.automata.specs.Automaton.{step}
@@ -32,14 +32,14 @@ pub one-step : (a : Automaton) (x q : ℕ) → q < 32 → (s : ℕ) → step_of 
 unfolding step_of
 one-step a x q l s = bool_same _ _ there back
   where
-    there : anyBelow 32 (λ p. hasBit (2 ^ q) p && step a x p s) ≡ true → step a x q s ≡ true
+    there : any_below 32 (λ p. has_bit (2 ^ q) p && step a x p s) ≡ true → step a x q s ≡ true
     there h =
-        let f = any-elim (λ p. hasBit (2 ^ q) p && step a x p s) 32 h in
+        let f = any-elim (λ p. has_bit (2 ^ q) p && step a x p s) 32 h in
         let alone : q ≡ f.0 = eqb-true _ _ (sym ((members-one q).has f.0) ∙ and_left _ _ f.2) in
-        ap (λ p. step a x p s) alone ∙ and_right (hasBit (2 ^ q) f.0) _ f.2
+        ap (λ p. step a x p s) alone ∙ and_right (has_bit (2 ^ q) f.0) _ f.2
 
-    back : step a x q s ≡ true → anyBelow 32 (λ p. hasBit (2 ^ q) p && step a x p s) ≡ true
-    back h = any-intro (λ p. hasBit (2 ^ q) p && step a x p s) 32 q l (and_intro ((members-one q).has q ∙ eq-eqb q q refl) h)
+    back : step a x q s ≡ true → any_below 32 (λ p. has_bit (2 ^ q) p && step a x p s) ≡ true
+    back h = any-intro (λ p. has_bit (2 ^ q) p && step a x p s) 32 q l (and_intro ((members-one q).has q ∙ eq-eqb q q refl) h)
 
 module _ {a : Automaton} {next : ℕ} (u : Usable a) (x q : ℕ) where
   pub steps-own : {one : ℕ} → q < a.states → one ≡ 2 ^ q → Members next (step_of a x one) → Members next (step a x q)

@@ -10,14 +10,14 @@ use Prim.Native.Nat.{ℕ, ◌<◌}
 use native.Mathlib.Omega.{arith}
 use borrow.Author.Tests.{eq-eqb, eqb-true}
 use lib.Dec.{eqb}
-use Rattle.base.specs.Below.{anyBelow}
+use Rattle.base.specs.Below.{any_below}
 use Rattle.acceptance.specs.Decision.{after, turn, meet}
-use Rattle.acceptance.specs.Sets.{metAfter}
+use Rattle.acceptance.specs.Sets.{met_after}
 use Rattle.base.proofs.Tests.{bool_same, any_same, any-intro, any-elim, and_intro, and_left, and_right, or_left, or_right, or_elim}
 
 -- the states that one step leads to from a set
 abbrev onward : (ℕ → ℕ → ℕ → Bool) → ℕ → ℕ → (ℕ → Bool) → ℕ → Bool
-onward δ n v X s = anyBelow n (λ q. X q && δ v q s)
+onward δ n v X s = any_below n (λ q. X q && δ v q s)
 
 module _ (δ : ℕ → ℕ → ℕ → Bool) (n : ℕ) where
   onward-same : (v : ℕ) (X X' : ℕ → Bool) → ((q : ℕ) → X q ≡ X' q) → (s : ℕ) → onward δ n v X s ≡ onward δ n v X' s
@@ -51,8 +51,8 @@ module _ (δ : ℕ → ℕ → ℕ → Bool) (n : ℕ) where
 
 module _ (δ : ℕ → ℕ → ℕ → Bool) (n : ℕ) (F : ℕ → Bool) where
   pub met-same : (vs : List ℕ) (X X' Y Y' : ℕ → Bool) → ((q : ℕ) → X q ≡ X' q) → ((q : ℕ) → Y q ≡ Y' q)
-      → (r : ℕ) → metAfter δ n F vs X Y r ≡ metAfter δ n F vs X' Y' r
-  unfolding metAfter
+      → (r : ℕ) → met_after δ n F vs X Y r ≡ met_after δ n F vs X' Y' r
+  unfolding met_after
   met-same [] X X' Y Y' e f r = f r
   met-same (v ∷ vs) X X' Y Y' e f r =
       met-same vs _ _ _ _ (onward-same δ n v X X' e)
@@ -65,24 +65,24 @@ module _ (δ : ℕ → ℕ → ℕ → Bool) (n : ℕ) (F : ℕ → Bool) where
   meet-here : (vs : List ℕ) (q r : ℕ) → F q ≡ true → turn δ n vs q r ≡ true → meet δ n F vs q r ≡ true
   unfolding turn meet
   meet-here [] q r f t = and_intro f t
-  meet-here (v ∷ vs) q r f t = or_right (anyBelow n (λ s. δ v q s && meet δ n F vs s r)) _ (and_intro f t)
+  meet-here (v ∷ vs) q r f t = or_right (any_below n (λ s. δ v q s && meet δ n F vs s r)) _ (and_intro f t)
 
   meet-by : (v : ℕ) (vs : List ℕ) (q s r : ℕ) → s < n → δ v q s ≡ true → meet δ n F vs s r ≡ true → meet δ n F (v ∷ vs) q r ≡ true
   unfolding meet
   meet-by v vs q s r l d m = or_left _ (F q && turn δ n (v ∷ vs) q r) (any-intro (λ s. δ v q s && meet δ n F vs s r) n s l (and_intro d m))
 
-  met_by : (vs : List ℕ) (X Y : ℕ → Bool) (q r : ℕ) → q < n → Y q ≡ true → turn δ n vs q r ≡ true → metAfter δ n F vs X Y r ≡ true
-  unfolding metAfter turn
+  met_by : (vs : List ℕ) (X Y : ℕ → Bool) (q r : ℕ) → q < n → Y q ≡ true → turn δ n vs q r ≡ true → met_after δ n F vs X Y r ≡ true
+  unfolding met_after turn
   met_by [] X Y q r l y t = subst (λ q. Y q ≡ true) (eqb-true q r t) y
   met_by (v ∷ vs) X Y q r l y t = turn-from δ n v vs q r t (λ s m d u.
       met_by vs (onward δ n v X) (marked v X Y) s r m (or_left _ (F s && onward δ n v X s) (onward-by δ n v Y q s l y d)) u)
 
   met_of : (vs : List ℕ) (X Y : ℕ → Bool) → ((s : ℕ) → F s ≡ true → X s ≡ true → Y s ≡ true)
-      → (q r : ℕ) → q < n → X q ≡ true → meet δ n F vs q r ≡ true → metAfter δ n F vs X Y r ≡ true
-  unfolding metAfter meet turn
+      → (q r : ℕ) → q < n → X q ≡ true → meet δ n F vs q r ≡ true → met_after δ n F vs X Y r ≡ true
+  unfolding met_after meet turn
   met_of [] X Y here q r l x m =
       met_by [] X Y q r l (here q (and_left (F q) (eqb q r) m) x) (and_right (F q) (eqb q r) m)
-  met_of (v ∷ vs) X Y here q r l x m = or_elim (anyBelow n (λ s. δ v q s && meet δ n F vs s r)) _ m
+  met_of (v ∷ vs) X Y here q r l x m = or_elim (any_below n (λ s. δ v q s && meet δ n F vs s r)) _ m
       (λ on.
       let f = any-elim (λ s. δ v q s && meet δ n F vs s r) n on in
       met_of vs (onward δ n v X) (marked v X Y) (λ s a o. or_right (onward δ n v Y s) _ (and_intro a o)) f.0 r f.1
@@ -110,10 +110,10 @@ module _ (δ : ℕ → ℕ → ℕ → Bool) (n : ℕ) (F : ℕ → Bool) (lands
   marked-lands : (v : ℕ) (X Y : ℕ → Bool) (s : ℕ) → marked δ n F v X Y s ≡ true → s < n
   marked-lands v X Y s h = or_elim (onward δ n v Y s) _ h (onward-lands δ n lands v Y s) (λ m. onward-lands δ n lands v X s (and_right (F s) _ m))
 
-  met-from : {C : Type 0} (vs : List ℕ) (X Y : ℕ → Bool) → ((q : ℕ) → Y q ≡ true → q < n) → (r : ℕ) → metAfter δ n F vs X Y r ≡ true
+  met-from : {C : Type 0} (vs : List ℕ) (X Y : ℕ → Bool) → ((q : ℕ) → Y q ≡ true → q < n) → (r : ℕ) → met_after δ n F vs X Y r ≡ true
       → ((q : ℕ) → q < n → Y q ≡ true → turn δ n vs q r ≡ true → C)
       → ((q : ℕ) → q < n → X q ≡ true → meet δ n F vs q r ≡ true → C) → C
-  unfolding metAfter turn
+  unfolding met_after turn
   met-from [] X Y below r h i j = i r (below r h) h (eq-eqb r r refl)
   met-from (v ∷ vs) X Y below r h i j = met-from vs (onward δ n v X) (marked δ n F v X Y) (marked-lands v X Y) r h
       (λ s m o t. or_elim (onward δ n v Y s) _ o
@@ -122,7 +122,7 @@ module _ (δ : ℕ → ℕ → ℕ → Bool) (n : ℕ) (F : ℕ → Bool) (lands
       j q l x (meet-by δ n F v vs q s r m d (meet-here δ n F vs s r (and_left (F s) _ o) t)))))
       (λ s m o t. onward-from δ n v X s o (λ q l x d. j q l x (meet-by δ n F v vs q s r m d t)))
 
-  pub met-meet : (vs : List ℕ) (q r : ℕ) → q < n → metAfter δ n F vs (eqb q) (λ s. F s && eqb q s) r ≡ meet δ n F vs q r
+  pub met-meet : (vs : List ℕ) (q r : ℕ) → q < n → met_after δ n F vs (eqb q) (λ s. F s && eqb q s) r ≡ meet δ n F vs q r
   met-meet vs q r l = bool_same _ _
       (λ h. met-from vs (eqb q) (λ s. F s && eqb q s) (λ s y. omega (arith, l, eqb-true q s (and_right (F s) _ y))) r h
       (λ s m y t. back s (and_right (F s) _ y) (meet-here δ n F vs s r (and_left (F s) _ y) t))

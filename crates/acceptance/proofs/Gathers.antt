@@ -15,18 +15,18 @@ use lib.ListN.{get_or}
 use lib.Bits.{bit_and, bit_or}
 use lib.Count.{count_trailing_zeros}
 use lib.Dec.{eqb}
-use Rattle.base.specs.Below.{anyBelow}
-use Rattle.base.specs.Bits.{hasBit, Members}
+use Rattle.base.specs.Below.{any_below}
+use Rattle.base.specs.Bits.{has_bit, Members}
 use Rattle.acceptance.specs.Table.{gathered, Narrow, Gathering}
 use Rattle.base.proofs.Tests.{false-not-true, bool_same, any-intro, any-elim, and_intro, and_left, and_right, or_left, or_right, or_elim}
 use Rattle.base.proofs.Bits.{bit-zero, bit_high}
 use Rattle.base.proofs.Members.{has-or, lowest_set, without-lowest-here, without-lowest-other, without-lowest-lt}
 
 -- a set of numbers below n has no member from n on
-pub outside : (n set q : ℕ) → set < 2 ^ n → n ≤ q → hasBit set q ≡ false
+pub outside : (n set q : ℕ) → set < 2 ^ n → n ≤ q → has_bit set q ≡ false
 outside n set q h l = rw (bit_high n set q h l)
 
-pub inside : (n set q : ℕ) → set < 2 ^ n → hasBit set q ≡ true → q < n
+pub inside : (n set q : ℕ) → set < 2 ^ n → has_bit set q ≡ true → q < n
 inside n set q h m = at (dec_lt q n)
   where
     at : Dec (q < n) → q < n
@@ -39,26 +39,26 @@ narrower n m table l x =
 
 module _ (table : List ℕ) (at : ℕ) where
   abbrev through : ℕ → ℕ → ℕ → Bool
-  through set i q = hasBit set q && hasBit (get_or table (at + q) 0) i
+  through set i q = has_bit set q && has_bit (get_or table (at + q) 0) i
 
-  gathered-intro : (set i q : ℕ) → q < 32 → hasBit set q ≡ true → hasBit (get_or table (at + q) 0) i ≡ true → gathered table at set i ≡ true
+  gathered-intro : (set i q : ℕ) → q < 32 → has_bit set q ≡ true → has_bit (get_or table (at + q) 0) i ≡ true → gathered table at set i ≡ true
   unfolding gathered
   gathered-intro set i q l m h = any-intro (through set i) 32 q l (and_intro m h)
 
-  gathered-elim : (set i : ℕ) → gathered table at set i ≡ true → (q : ℕ) × (q < 32) × (hasBit set q ≡ true) × (hasBit (get_or table (at + q) 0) i ≡ true)
+  gathered-elim : (set i : ℕ) → gathered table at set i ≡ true → (q : ℕ) × (q < 32) × (has_bit set q ≡ true) × (has_bit (get_or table (at + q) 0) i ≡ true)
   unfolding gathered
-  gathered-elim set i h = let f = any-elim (through set i) 32 h in (f.0, f.1, and_left _ _ f.2, and_right (hasBit set f.0) _ f.2)
+  gathered-elim set i h = let f = any-elim (through set i) 32 h in (f.0, f.1, and_left _ _ f.2, and_right (has_bit set f.0) _ f.2)
 
-  pub gathered-below : (n set i : ℕ) → n ≤ 32 → set < 2 ^ n → gathered table at set i ≡ anyBelow n (through set i)
+  pub gathered-below : (n set i : ℕ) → n ≤ 32 → set < 2 ^ n → gathered table at set i ≡ any_below n (through set i)
   unfolding gathered
   gathered-below n set i few small = bool_same _ _ there back
     where
-      there : anyBelow 32 (through set i) ≡ true → anyBelow n (through set i) ≡ true
+      there : any_below 32 (through set i) ≡ true → any_below n (through set i) ≡ true
       there h =
           let f = any-elim (through set i) 32 h in
           any-intro (through set i) n f.0 (inside n set f.0 small (and_left _ _ f.2)) f.2
 
-      back : anyBelow n (through set i) ≡ true → anyBelow 32 (through set i) ≡ true
+      back : any_below n (through set i) ≡ true → any_below 32 (through set i) ≡ true
       back h = let f = any-elim (through set i) n h in any-intro (through set i) 32 f.0 (omega (arith, f.1)) f.2
 
   gathered_none : (i : ℕ) → gathered table at 0 i ≡ false
@@ -81,46 +81,46 @@ module _ (table : List ℕ) (at : ℕ) where
     fits : left < 2 ^ 64
     fits = omega (arith, g.small)
 
-    member : hasBit left q ≡ true
+    member : has_bit left q ≡ true
     member = eq-eqb _ _ (lowest_set 64 left some fits).0
 
     pub lowest-inside : q < 32
     lowest-inside = inside 32 left q g.small member
 
-    other : (p : ℕ) → (p ≡ q → ⊥) → hasBit rest p ≡ hasBit left p
+    other : (p : ℕ) → (p ≡ q → ⊥) → has_bit rest p ≡ has_bit left p
     other p apart = ap (λ b. eqb b 1) (without-lowest-other 64 left some fits p apart)
 
-    absent : hasBit rest q ≡ false
+    absent : has_bit rest q ≡ false
     absent = rw (without-lowest-here 64 left some fits)
 
-    split : (i : ℕ) → (hasBit (get_or table (at + q) 0) i || gathered table at rest i) ≡ gathered table at left i
+    split : (i : ℕ) → (has_bit (get_or table (at + q) 0) i || gathered table at rest i) ≡ gathered table at left i
     split i = bool_same _ _ there back
       where
-        there : (hasBit (get_or table (at + q) 0) i || gathered table at rest i) ≡ true → gathered table at left i ≡ true
-        there h = or_elim (hasBit (get_or table (at + q) 0) i) _ h
+        there : (has_bit (get_or table (at + q) 0) i || gathered table at rest i) ≡ true → gathered table at left i ≡ true
+        there h = or_elim (has_bit (get_or table (at + q) 0) i) _ h
             (λ here. gathered-intro left i q lowest-inside member here)
             (λ more.
             let f = gathered-elim rest i more in
-            let apart : f.0 ≡ q → ⊥ = λ e. false-not-true f.2 (ap (hasBit rest) e ∙ absent) in
+            let apart : f.0 ≡ q → ⊥ = λ e. false-not-true f.2 (ap (has_bit rest) e ∙ absent) in
             gathered-intro left i f.0 f.1 (sym (other f.0 apart) ∙ f.2) f.3)
 
-        back : gathered table at left i ≡ true → (hasBit (get_or table (at + q) 0) i || gathered table at rest i) ≡ true
+        back : gathered table at left i ≡ true → (has_bit (get_or table (at + q) 0) i || gathered table at rest i) ≡ true
         back h = let f = gathered-elim left i h in by f.0 f.1 f.2 f.3 (ℕ_discrete f.0 q)
           where
-            by : (p : ℕ) → p < 32 → hasBit left p ≡ true → hasBit (get_or table (at + p) 0) i ≡ true → Dec (p ≡ q)
-                → (hasBit (get_or table (at + q) 0) i || gathered table at rest i) ≡ true
-            by p l m h (yes e) = or_left _ (gathered table at rest i) (ap (λ p. hasBit (get_or table (at + p) 0) i) (sym e) ∙ h)
-            by p l m h (no e) = or_right (hasBit (get_or table (at + q) 0) i) _ (gathered-intro rest i p l (other p e ∙ m) h)
+            by : (p : ℕ) → p < 32 → has_bit left p ≡ true → has_bit (get_or table (at + p) 0) i ≡ true → Dec (p ≡ q)
+                → (has_bit (get_or table (at + q) 0) i || gathered table at rest i) ≡ true
+            by p l m h (yes e) = or_left _ (gathered table at rest i) (ap (λ p. has_bit (get_or table (at + p) 0) i) (sym e) ∙ h)
+            by p l m h (no e) = or_right (has_bit (get_or table (at + q) 0) i) _ (gathered-intro rest i p l (other p e ∙ m) h)
 
     pub gathering-step : Gathering table at set (bit_or out (get_or table (at + q) 0)) rest
     gathering-step = record {
       small = omega (arith, g.small, without-lowest-lt 64 left some fits);
       whole = λ i.
           ap (λ b. b || gathered table at rest i) (has-or out (get_or table (at + q) 0) i)
-          ∙ or_assoc (hasBit out i) (hasBit (get_or table (at + q) 0) i) (gathered table at rest i)
-          ∙ ap (λ b. hasBit out i || b) (split i)
+          ∙ or_assoc (has_bit out i) (has_bit (get_or table (at + q) 0) i) (gathered table at rest i)
+          ∙ ap (λ b. has_bit out i || b) (split i)
           ∙ g.whole i;
     }
 
   pub gathering-end : (set out left : ℕ) → left ≡ 0 → Gathering table at set out left → Members out (gathered table at set)
-  gathering-end set out left e g = record { has = λ i. sym (or-false (hasBit out i)) ∙ ap (λ b. hasBit out i || b) (sym (gathered_none i) ∙ ap (λ l. gathered table at l i) (sym e)) ∙ g.whole i }
+  gathering-end set out left e g = record { has = λ i. sym (or-false (has_bit out i)) ∙ ap (λ b. has_bit out i || b) (sym (gathered_none i) ∙ ap (λ l. gathered table at l i) (sym e)) ∙ g.whole i }

@@ -15,7 +15,7 @@ use lib.ListN.{length, get_or, set}
 use lib.Seq.{get_or-set_same, get_or-set_other}
 use lib.Bits.{bit_or}
 use lib.Dec.{eqb}
-use Rattle.base.specs.Bits.{hasBit, Members}
+use Rattle.base.specs.Bits.{has_bit, Members}
 use Rattle.acceptance.specs.Decision.{linked}
 use Rattle.acceptance.specs.Table.{related, Linked, passing, Passed}
 use Rattle.base.proofs.Bits.{bit-mod}
@@ -38,14 +38,14 @@ module _ (rows links : List ℕ) where
   unfolding linked related
   linked-put q one x h e = record { set = λ p l r m. at p l r m (ℕ_discrete p q) }
     where
-      here : (r : ℕ) → r < 32 → hasBit (bit_or (get_or rows q 0 % 2 ^ 32) one) r ≡ (eqb q r || hasBit (get_or rows q 0) r)
+      here : (r : ℕ) → r < 32 → has_bit (bit_or (get_or rows q 0 % 2 ^ 32) one) r ≡ (eqb q r || has_bit (get_or rows q 0) r)
       here r m =
           has-or (get_or rows q 0 % 2 ^ 32) one r
-          ∙ ap₂ ◌||◌ (ap (λ b. eqb b 1) (bit-mod 32 (get_or rows q 0) r m)) (ap (λ x. hasBit x r) e ∙ (members-one q).has r)
-          ∙ or_comm (hasBit (get_or rows q 0) r) (eqb q r)
+          ∙ ap₂ ◌||◌ (ap (λ b. eqb b 1) (bit-mod 32 (get_or rows q 0) r m)) (ap (λ x. has_bit x r) e ∙ (members-one q).has r)
+          ∙ or_comm (has_bit (get_or rows q 0) r) (eqb q r)
 
       at : (p : ℕ) → p < q + 1 → (r : ℕ) → r < 32 → Dec (p ≡ q)
-          → hasBit (get_or (set links q (bit_or (get_or rows q 0 % 2 ^ 32) one)) p 0) r ≡ (eqb p r || hasBit (get_or rows p 0) r)
+          → has_bit (get_or (set links q (bit_or (get_or rows q 0 % 2 ^ 32) one)) p 0) r ≡ (eqb p r || has_bit (get_or rows p 0) r)
       at p l r m (yes d) = rw (d, get_or-set_same links q (bit_or (get_or rows q 0 % 2 ^ 32) one) 0 h) (here r m)
       at p l r m (no d) = rw (get_or-set_other links q p (bit_or (get_or rows q 0 % 2 ^ 32) one) 0 d) (x.set p (omega arith) r m)
 
@@ -58,16 +58,16 @@ module _ (k mid : ℕ) (old : List ℕ) where
   passed-put i w new x h m =
       record { done = λ q l r. at q l r (ℕ_discrete q i); same = λ q l. get_or-set_other new i q w 0 (λ e. omega arith) ∙ x.same q (omega arith) }
     where
-      at : (q : ℕ) → q < i + 1 → (r : ℕ) → Dec (q ≡ i) → hasBit (get_or (set new i w) q 0) r ≡ passing (get_or old q 0) k mid r
+      at : (q : ℕ) → q < i + 1 → (r : ℕ) → Dec (q ≡ i) → has_bit (get_or (set new i w) q 0) r ≡ passing (get_or old q 0) k mid r
       at q l r (yes e) = rw (e, get_or-set_same new i w 0 h) (m.has r ∙ ap (λ o. passing o k mid r) (x.same i (omega arith)))
       at q l r (no e) = rw (get_or-set_other new i q w 0 e) (x.done q (omega arith) r)
 
 -- one set by way of state k
-pub pass-take : (word k mid : ℕ) → hasBit word k ≡ true → Members (bit_or word mid) (passing word k mid)
-pass-take word k mid h = record { has = λ r. has-or word mid r ∙ ap (λ b. hasBit word r || (b && hasBit mid r)) (sym h) }
+pub pass-take : (word k mid : ℕ) → has_bit word k ≡ true → Members (bit_or word mid) (passing word k mid)
+pass-take word k mid h = record { has = λ r. has-or word mid r ∙ ap (λ b. has_bit word r || (b && has_bit mid r)) (sym h) }
 
-pub pass-leave : (word k mid : ℕ) → hasBit word k ≡ false → Members word (passing word k mid)
-pass-leave word k mid h = record { has = λ r. sym (or-false (hasBit word r)) ∙ ap (λ b. hasBit word r || (b && hasBit mid r)) (sym h) }
+pub pass-leave : (word k mid : ℕ) → has_bit word k ≡ false → Members word (passing word k mid)
+pass-leave word k mid h = record { has = λ r. sym (or-false (has_bit word r)) ∙ ap (λ b. has_bit word r || (b && has_bit mid r)) (sym h) }
 
 pub linked-pass : (R : ℕ → ℕ → Bool) (n k mid : ℕ) (old new : List ℕ) → n ≤ 32 → k < n → mid ≡ get_or old k 0 → Linked R n k old → Passed k mid old n new
     → Linked R n (k + 1) new
@@ -75,6 +75,6 @@ unfolding linked
 linked-pass R n k mid old new few l e x p = record {
   set = λ q h r m.
       p.done q h r
-      ∙ ap₂ ◌||◌ (x.set q h r m) (ap₂ ◌&&◌ (x.set q h k (omega arith)) (ap (λ m. hasBit m r) e ∙ x.set k l r m))
+      ∙ ap₂ ◌||◌ (x.set q h r m) (ap₂ ◌&&◌ (x.set q h k (omega arith)) (ap (λ m. has_bit m r) e ∙ x.set k l r m))
       ∙ ap (λ j. linked R j q r) (sym (add-one k));
 }

@@ -15,12 +15,12 @@ use mathlib.Core.List.{List, [], ◌∷◌}
 use Prim.Native.Nat.{ℕ, zero, suc, ◌<◌}
 use native.Mathlib.Omega.{arith}
 use lib.ListN.{get_or}
-use Rattle.base.specs.Below.{anyBelow}
+use Rattle.base.specs.Below.{any_below}
 use Rattle.base.specs.Bits.{bit}
 use Rattle.base.proofs.Tests.{false-not-true}
-use Rattle.automata.specs.Automaton.{guard, fits, leads, step, blocked, trapStep, final}
+use Rattle.automata.specs.Automaton.{guard, fits, leads, step, blocked, trap_step, final}
 use Rattle.automata.specs.WellFormed.{Below}
-use Rattle.automata.specs.Acceptance.{HardAccepts, SoftAccepts, lassoAt}
+use Rattle.automata.specs.Acceptance.{HardAccepts, SoftAccepts, lasso_at}
 use Rattle.automata.specs.declared.Automaton.{Automaton}
 use Rattle.automata.proofs.Readings.{early, marked}
 use Rattle.acceptance.specs.Decision.{after, turn, meet, linked, decided}
@@ -33,10 +33,10 @@ abbrev pub hard : Automaton → Bool
 hard a = decided (λ v. step a (label v)) a.states a.first (final a) (0 ∷ []) (1 ∷ [])
 
 abbrev pub soft : Automaton → Bool
-soft a = decided (λ v. trapStep a (label v)) (suc a.states) a.first (final a) (0 ∷ []) (1 ∷ [])
+soft a = decided (λ v. trap_step a (label v)) (suc a.states) a.first (final a) (0 ∷ []) (1 ∷ [])
 
 abbrev pub word : ℕ → ℕ
-word t = label (lassoAt (0 ∷ []) (1 ∷ []) t)
+word t = label (lasso_at (0 ∷ []) (1 ∷ []) t)
 
 -- every entry of a list, and the 0 past its end, is below n
 abbrev Each : ℕ → List ℕ → Type 0
@@ -63,7 +63,7 @@ module _ (a : Automaton) (first : a.first < a.states) (each : Each a.states a.to
 
 -- state 0, which accepts, is left for state 1 at once and for ever
 pub run-in-only : hard early ≡ false
-unfolding decided after turn meet linked anyBelow step leads fits guard final bit
+unfolding decided after turn meet linked any_below step leads fits guard final bit
 run-in-only = refl
 
 pub run-in-only-refused : HardAccepts early word 1 1 → ⊥
@@ -84,7 +84,7 @@ branching = record {
 }
 
 pub second-move : hard branching ≡ true
-unfolding decided after turn meet linked anyBelow step leads fits guard final bit
+unfolding decided after turn meet linked any_below step leads fits guard final bit
 second-move = refl
 
 pub second-move-accepts : HardAccepts branching word 1 1
@@ -105,7 +105,7 @@ choosing = record {
 }
 
 pub fitting-move : soft choosing ≡ true
-unfolding decided after turn meet linked anyBelow trapStep blocked step leads fits guard final bit
+unfolding decided after turn meet linked any_below trap_step blocked step leads fits guard final bit
 fitting-move = refl
 
 pub fitting-move-accepts : SoftAccepts choosing word 1 1
@@ -116,7 +116,7 @@ abbrev pub asking : Automaton
 asking = record { states = 1; first = 0; accept = 1; moves = 1; from = 0 ∷ []; need = 1 ∷ []; bar = []; any = []; to = 0 ∷ [] }
 
 pub no_move : soft asking ≡ false
-unfolding decided after turn meet linked anyBelow trapStep blocked step leads fits guard final bit
+unfolding decided after turn meet linked any_below trap_step blocked step leads fits guard final bit
 no_move = refl
 
 pub no-move-refused : SoftAccepts asking word 1 1 → ⊥
@@ -124,7 +124,7 @@ no-move-refused = soft-refuses asking (omega arith) (omega arith) no_move
 
 -- state 1, which accepts and stays, is entered from state 0 where mark 0 is
 pub start-label : soft marked ≡ true
-unfolding decided after turn meet linked anyBelow trapStep blocked step leads fits guard final bit
+unfolding decided after turn meet linked any_below trap_step blocked step leads fits guard final bit
 start-label = refl
 
 pub start-label-accepts : SoftAccepts marked word 1 1
@@ -135,7 +135,7 @@ abbrev pub unmarked : Automaton
 unmarked = record { states = 2; first = 0; accept = 2; moves = 2; from = 0 ∷ 1 ∷ []; need = []; bar = 1 ∷ 0 ∷ []; any = []; to = 1 ∷ 1 ∷ [] }
 
 pub start-skipped : soft unmarked ≡ false
-unfolding decided after turn meet linked anyBelow trapStep blocked step leads fits guard final bit
+unfolding decided after turn meet linked any_below trap_step blocked step leads fits guard final bit
 start-skipped = refl
 
 pub start-skipped-refused : SoftAccepts unmarked word 1 1 → ⊥

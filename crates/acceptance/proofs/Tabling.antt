@@ -23,34 +23,34 @@ use lib.Seq.{get_or-set_same, get_or-set_other}
 use lib.Bits.{bit_or}
 use lib.Pow.{pow_mono}
 use lib.Dec.{eqb}
-use Rattle.base.specs.Bits.{bit, hasBit, Members}
+use Rattle.base.specs.Bits.{bit, has_bit, Members}
 use Rattle.base.proofs.Tests.{false-not-true, bool_same, any-intro, any-elim, and_intro, and_left, and_right, or_left, or_right, or_elim}
 use Rattle.base.proofs.Bits.{bit-zero, bit_high, bit-add-same, bit-add-other}
 use Rattle.base.proofs.Members.{members-none, members-or, members-same}
-use Rattle.acceptance.specs.Table.{stepIn, Narrow}
-use Rattle.acceptance.specs.Sets.{ledBy, Extended, Tabled}
+use Rattle.acceptance.specs.Table.{step_in, Narrow}
+use Rattle.acceptance.specs.Sets.{led_by, Extended, Tabled}
 
 -- ---- where a set leads
 module _ (steps : List ℕ) (v : ℕ) where
   abbrev by : ℕ → ℕ → ℕ → Bool
-  by x r q = hasBit x q && stepIn steps v q r
+  by x r q = has_bit x q && step_in steps v q r
 
-  led-intro : (x r q : ℕ) → q < 8 → hasBit x q ≡ true → stepIn steps v q r ≡ true → ledBy steps v x r ≡ true
-  unfolding ledBy
+  led-intro : (x r q : ℕ) → q < 8 → has_bit x q ≡ true → step_in steps v q r ≡ true → led_by steps v x r ≡ true
+  unfolding led_by
   led-intro x r q l m h = any-intro (by x r) 8 q l (and_intro m h)
 
-  led-elim : (x r : ℕ) → ledBy steps v x r ≡ true → (q : ℕ) × (q < 8) × (hasBit x q ≡ true) × (stepIn steps v q r ≡ true)
-  unfolding ledBy
-  led-elim x r h = let f = any-elim (by x r) 8 h in (f.0, f.1, and_left _ _ f.2, and_right (hasBit x f.0) _ f.2)
+  led-elim : (x r : ℕ) → led_by steps v x r ≡ true → (q : ℕ) × (q < 8) × (has_bit x q ≡ true) × (step_in steps v q r ≡ true)
+  unfolding led_by
+  led-elim x r h = let f = any-elim (by x r) 8 h in (f.0, f.1, and_left _ _ f.2, and_right (has_bit x f.0) _ f.2)
 
-  pub step-members : (q : ℕ) → Members (get_or steps (v * 32 + q) 0) (stepIn steps v q)
-  unfolding stepIn
+  pub step-members : (q : ℕ) → Members (get_or steps (v * 32 + q) 0) (step_in steps v q)
+  unfolding step_in
   step-members q = record { has = λ r. refl }
 
-  pub led-none : (r : ℕ) → ledBy steps v 0 r ≡ false
-  led-none r = none (ledBy steps v 0 r) refl
+  pub led-none : (r : ℕ) → led_by steps v 0 r ≡ false
+  led-none r = none (led_by steps v 0 r) refl
     where
-      none : (b : Bool) → ledBy steps v 0 r ≡ b → b ≡ false
+      none : (b : Bool) → led_by steps v 0 r ≡ b → b ≡ false
       none false e = refl
       none true e = let f = led-elim 0 r e in absurd (false-not-true f.2 (rw (bit-zero f.0)))
 
@@ -58,29 +58,29 @@ module _ (steps : List ℕ) (v : ℕ) where
     absent : bit x q ≡ 0
     absent = bit_high q x q small (omega arith)
 
-    other : (p : ℕ) → (p ≡ q → ⊥) → hasBit (x + 2 ^ q) p ≡ hasBit x p
+    other : (p : ℕ) → (p ≡ q → ⊥) → has_bit (x + 2 ^ q) p ≡ has_bit x p
     other p apart = ap (λ b. eqb b 1) (bit-add-other q p x absent apart)
 
-    member : hasBit (x + 2 ^ q) q ≡ true
+    member : has_bit (x + 2 ^ q) q ≡ true
     member = eq-eqb _ _ (bit-add-same q x absent)
 
-    pub led-more : (r : ℕ) → (ledBy steps v x r || stepIn steps v q r) ≡ ledBy steps v (x + 2 ^ q) r
+    pub led-more : (r : ℕ) → (led_by steps v x r || step_in steps v q r) ≡ led_by steps v (x + 2 ^ q) r
     led-more r = bool_same _ _ there back
       where
-        there : (ledBy steps v x r || stepIn steps v q r) ≡ true → ledBy steps v (x + 2 ^ q) r ≡ true
-        there h = or_elim (ledBy steps v x r) _ h
+        there : (led_by steps v x r || step_in steps v q r) ≡ true → led_by steps v (x + 2 ^ q) r ≡ true
+        there h = or_elim (led_by steps v x r) _ h
             (λ old.
             let f = led-elim x r old in
-            let apart : f.0 ≡ q → ⊥ = λ e. false-not-true f.2 (ap (hasBit x) e ∙ rw absent) in
+            let apart : f.0 ≡ q → ⊥ = λ e. false-not-true f.2 (ap (has_bit x) e ∙ rw absent) in
             led-intro _ r f.0 f.1 (other f.0 apart ∙ f.2) f.3)
             (λ new. led-intro _ r q few member new)
 
-        back : ledBy steps v (x + 2 ^ q) r ≡ true → (ledBy steps v x r || stepIn steps v q r) ≡ true
+        back : led_by steps v (x + 2 ^ q) r ≡ true → (led_by steps v x r || step_in steps v q r) ≡ true
         back h = let f = led-elim _ r h in at f.0 f.1 f.2 f.3 (ℕ_discrete f.0 q)
           where
-            at : (p : ℕ) → p < 8 → hasBit (x + 2 ^ q) p ≡ true → stepIn steps v p r ≡ true → Dec (p ≡ q) → (ledBy steps v x r || stepIn steps v q r) ≡ true
-            at p l m s (yes e) = or_right (ledBy steps v x r) _ (ap (λ p. stepIn steps v p r) (sym e) ∙ s)
-            at p l m s (no e) = or_left _ (stepIn steps v q r) (led-intro x r p l (sym (other p e) ∙ m) s)
+            at : (p : ℕ) → p < 8 → has_bit (x + 2 ^ q) p ≡ true → step_in steps v p r ≡ true → Dec (p ≡ q) → (led_by steps v x r || step_in steps v q r) ≡ true
+            at p l m s (yes e) = or_right (led_by steps v x r) _ (ap (λ p. step_in steps v p r) (sym e) ∙ s)
+            at p l m s (no e) = or_left _ (step_in steps v q r) (led-intro x r p l (sym (other p e) ∙ m) s)
 
 -- ---- twice as many entries
 pub extended-start : (at size next : ℕ) (sets : List ℕ) → Extended at size next sets 0 sets
@@ -126,24 +126,24 @@ module _ {steps : List ℕ} {n v : ℕ} {sets : List ℕ} where
   }
 
   pub tabled-extend : {size q next : ℕ} {longer : List ℕ} → Tabled steps n v size sets → size ≡ 2 ^ q → q < n → n ≤ 8
-      → Extended (v * 256) size next sets size longer → Members next (stepIn steps v q) → Tabled steps n v (size * 2) longer
+      → Extended (v * 256) size next sets size longer → Members next (step_in steps v q) → Tabled steps n v (size * 2) longer
   tabled-extend {size} {q} {next} {longer} t power l few e m = record {
     places = λ u x before small. rw (e.below (u * 256 + x) (omega (arith, pow_mono few))) (t.places u x before small);
     part = λ x inside. at x inside (dec_lt x size);
   }
     where
-      upper : (x : ℕ) → x < size → Members (get_or longer (v * 256 + (x + 2 ^ q)) 0) (ledBy steps v (x + 2 ^ q))
+      upper : (x : ℕ) → x < size → Members (get_or longer (v * 256 + (x + 2 ^ q)) 0) (led_by steps v (x + 2 ^ q))
       upper x low =
           let place : v * 256 + (x + 2 ^ q) ≡ v * 256 + size + x = omega arith in
           rw (place, e.joined x low) (members-same (led-more steps v q x (omega arith) (omega arith)) (members-or (t.part x low) m))
 
-      at : (x : ℕ) → x < size * 2 → Dec (x < size) → Members (get_or longer (v * 256 + x) 0) (ledBy steps v x)
+      at : (x : ℕ) → x < size * 2 → Dec (x < size) → Members (get_or longer (v * 256 + x) 0) (led_by steps v x)
       at x inside (yes low) = rw (e.below (v * 256 + x) (omega arith)) (t.part x low)
       at x inside (no high) = let rest : x - size + 2 ^ q ≡ x = omega arith in rw rest at (upper (x - size) (omega arith))
 
   pub tabled-next : {size : ℕ} → Tabled steps n v size sets → size ≡ 2 ^ n → Tabled steps n (v + 1) 0 sets
   tabled-next t power = record { places = λ u x before small. at u x small before (ℕ_discrete u v); part = below_none _ }
     where
-      at : (u x : ℕ) → x < 2 ^ n → u < v + 1 → Dec (u ≡ v) → Members (get_or sets (u * 256 + x) 0) (ledBy steps u x)
+      at : (u x : ℕ) → x < 2 ^ n → u < v + 1 → Dec (u ≡ v) → Members (get_or sets (u * 256 + x) 0) (led_by steps u x)
       at u x small before (yes d) = rw d (t.part x (omega arith))
       at u x small before (no d) = t.places u x (omega arith) small

@@ -11,7 +11,7 @@ use native.Mathlib.Omega.{arith}
 use borrow.Author.Tests.{eq-eqb, eqb-true}
 use lib.ListN.{length, get_or}
 use lib.Dec.{eqb}
-use Rattle.base.specs.Below.{anyBelow}
+use Rattle.base.specs.Below.{any_below}
 use Rattle.base.proofs.Tests.{any-intro, any-elim, and_intro, and_left, and_right, or_left, or_right, or_elim}
 use Rattle.acceptance.specs.Decision.{after, turn, meet}
 use Rattle.acceptance.proofs.Stretches.{Stretch, stretch-none, stretch-cons, stretch-head, stretch-tail}
@@ -33,7 +33,7 @@ module _ (δ : ℕ → ℕ → ℕ → Bool) (n : ℕ) where
   unfolding after
   after-stretch [] X r h = (r, h, stretch-none refl)
   after-stretch (v ∷ vs) X r h =
-      let ih = after-stretch vs (λ s. anyBelow n (λ q. X q && δ v q s)) r h in
+      let ih = after-stretch vs (λ s. any_below n (λ q. X q && δ v q s)) r h in
       let s : ℕ = ih.0 in
       let m = any-elim (λ q. X q && δ v q s) n ih.1 in
       let q : ℕ = m.0 in
@@ -45,7 +45,7 @@ module _ (δ : ℕ → ℕ → ℕ → Bool) (n : ℕ) where
   meet-meeting F (v ∷ vs) q r h =
       let next : ℕ → Bool = λ s. δ v q s && meet δ n F vs s r in
       let all : Bool = turn δ n (v ∷ vs) q r in
-      or_elim (anyBelow n next) (F q && all) h
+      or_elim (any_below n next) (F q && all) h
       (λ e. let m = any-elim next n e in
       let s : ℕ = m.0 in
       meeting-cons (and_left (δ v q s) (meet δ n F vs s r) m.2) (meet-meeting F vs s r (and_right (δ v q s) (meet δ n F vs s r) m.2)))
@@ -67,7 +67,7 @@ module _ (δ : ℕ → ℕ → ℕ → Bool) (n : ℕ) where
         let s : ℕ = S.run 1 in
         let e : δ v q s ≡ true = stretch-head S in
         let from = any-intro (λ q. X q && δ v q s) n q l (and_intro h e) in
-        stretch-after vs (λ s. anyBelow n (λ q. X q && δ v q s)) s r (lands v q s e) from (stretch-tail S)
+        stretch-after vs (λ s. any_below n (λ q. X q && δ v q s)) s r (lands v q s e) from (stretch-tail S)
 
     pub meeting-meet : (F : ℕ → Bool) (vs : List ℕ) (q r : ℕ) → Meeting δ F (word vs) (length vs) q r → meet δ n F vs q r ≡ true
     unfolding meet
@@ -79,7 +79,7 @@ module _ (δ : ℕ → ℕ → ℕ → Bool) (n : ℕ) where
         let S = M.stretch in
         let s : ℕ = S.run 1 in
         let e : δ v q s ≡ true = stretch-head S in
-        let later : Bool = anyBelow n (λ s. δ v q s && meet δ n F vs s r) in
+        let later : Bool = any_below n (λ s. δ v q s && meet δ n F vs s r) in
         let here : Bool = F q && turn δ n (v ∷ vs) q r in
         meeting-by M
         (λ h. or_right later here (and_intro h (stretch-turn (v ∷ vs) q r S)))

@@ -8,19 +8,19 @@
 --                      == from q₀, over the run-in and then over turns of the loop, a state is reached that leads back to itself by turns of
 --                         the loop, in the first of which an accepting state is met
 use Rattle.std.specs.Prelude.{Bool, ◌&&◌, ◌||◌, List, [], ◌∷◌, ℕ, zero, suc, eqb}
-use Rattle.base.specs.Below.{anyBelow}
+use Rattle.base.specs.Below.{any_below}
 
 unfoldable pub after : (ℕ → ℕ → ℕ → Bool) → ℕ → List ℕ → (ℕ → Bool) → ℕ → Bool
 after δ n [] X r = X r
-after δ n (v ∷ vs) X r = after δ n vs (λ s. anyBelow n (λ q. X q && δ v q s)) r
+after δ n (v ∷ vs) X r = after δ n vs (λ s. any_below n (λ q. X q && δ v q s)) r
 
 unfoldable pub turn : (ℕ → ℕ → ℕ → Bool) → ℕ → List ℕ → ℕ → ℕ → Bool
 turn δ n [] q r = eqb q r
-turn δ n (v ∷ vs) q r = anyBelow n (λ s. δ v q s && turn δ n vs s r)
+turn δ n (v ∷ vs) q r = any_below n (λ s. δ v q s && turn δ n vs s r)
 
 unfoldable pub meet : (ℕ → ℕ → ℕ → Bool) → ℕ → (ℕ → Bool) → List ℕ → ℕ → ℕ → Bool
 meet δ n F [] q r = F q && eqb q r
-meet δ n F (v ∷ vs) q r = anyBelow n (λ s. δ v q s && meet δ n F vs s r) || (F q && turn δ n (v ∷ vs) q r)
+meet δ n F (v ∷ vs) q r = any_below n (λ s. δ v q s && meet δ n F vs s r) || (F q && turn δ n (v ∷ vs) q r)
 
 unfoldable pub linked : (ℕ → ℕ → Bool) → ℕ → ℕ → ℕ → Bool
 linked R zero q r = eqb q r || R q r
@@ -31,6 +31,6 @@ turns δ n cycle = linked (turn δ n cycle) n
 
 unfoldable pub decided : (ℕ → ℕ → ℕ → Bool) → ℕ → ℕ → (ℕ → Bool) → List ℕ → List ℕ → Bool
 decided δ n q₀ F stem cycle =
-    anyBelow n (λ s.
-    anyBelow n (λ p. after δ n stem (eqb q₀) p && turns δ n cycle p s)
-    && anyBelow n (λ t. meet δ n F cycle s t && turns δ n cycle t s))
+    any_below n (λ s.
+    any_below n (λ p. after δ n stem (eqb q₀) p && turns δ n cycle p s)
+    && any_below n (λ t. meet δ n F cycle s t && turns δ n cycle t s))

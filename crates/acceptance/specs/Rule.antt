@@ -7,7 +7,7 @@
 --                        soft one
 use Rattle.std.specs.Prelude.{◌≡◌, Bool, true, false, List, ℕ, ◌^◌, ◌≤◌, ◌<◌, length, get_or}
 use Rattle.automata.specs.Automaton.{step}
-use Rattle.automata.specs.Acceptance.{lassoAt, HardAccepts, SoftAccepts}
+use Rattle.automata.specs.Acceptance.{lasso_at, HardAccepts, SoftAccepts}
 use Rattle.automata.specs.WellFormed.{Below}
 use Rattle.automata.specs.declared.Automaton.{Automaton}
 
@@ -27,5 +27,5 @@ pub record Tells (P : Type 0) (b : Bool) : Type 0 where
   pub fails : b ≡ false → P → ⊥
 
 pub record Judged (a : Automaton) (labels stem cycle : List ℕ) (b : Bool) : Type 0 where
-  pub hard : Tells (HardAccepts a (λ t. get_or labels (lassoAt stem cycle t) 0) (length stem) (length cycle)) b
-  pub soft : Tells (SoftAccepts a (λ t. get_or labels (lassoAt stem cycle t) 0) (length stem) (length cycle)) b
+  pub hard : Tells (HardAccepts a (λ t. get_or labels (lasso_at stem cycle t) 0) (length stem) (length cycle)) b
+  pub soft : Tells (SoftAccepts a (λ t. get_or labels (lasso_at stem cycle t) 0) (length stem) (length cycle)) b

@@ -1,7 +1,7 @@
 -- The table of the sets of an automaton of at most eight states: entry v * 256 + x is where the set x leads at place v.
---   metAfter δ n F vs X Y r    == over the entries of vs, some state of Y leads to r, or some state of X does with an accepting state met after
+--   met_after δ n F vs X Y r    == over the entries of vs, some state of Y leads to r, or some state of X does with an accepting state met after
 --                                 the first entry or later
---   ledBy steps v x r          == at place v some state of the set x leads to r
+--   led_by steps v x r          == at place v some state of the set x leads to r
 --   Extended at size next old i new == from at + size on, the first i entries of new are those of old from `at` on with `next` joined; those
 --                                 before are as in old
 --   Tabled steps n v size sets == for the places below v all sets of n states are tabled, for place v those below `size`
@@ -15,36 +15,36 @@
 --   Stored, StoredFour         == one word, or four, stored from row q on, each if there is such a state
 use Rattle.std.specs.Prelude.{◌≡◌, Bool, ◌&&◌, ◌||◌, List, [], ◌∷◌, ℕ, ◌+◌, ◌*◌, ◌^◌, ◌<◌, get_or, drop, eqb}
 use Rattle.std.specs.Int.Bits.{bit_and, bit_or}
-use Rattle.base.specs.Below.{anyBelow}
-use Rattle.base.specs.Bits.{hasBit, Members}
+use Rattle.base.specs.Below.{any_below}
+use Rattle.base.specs.Bits.{has_bit, Members}
 use Rattle.acceptance.specs.Decision.{after}
-use Rattle.acceptance.specs.Table.{stepIn, Word}
+use Rattle.acceptance.specs.Table.{step_in, Word}
 
-unfoldable pub metAfter : (ℕ → ℕ → ℕ → Bool) → ℕ → (ℕ → Bool) → List ℕ → (ℕ → Bool) → (ℕ → Bool) → ℕ → Bool
-metAfter δ n F [] X Y r = Y r
-metAfter δ n F (v ∷ vs) X Y r =
-    metAfter δ n F vs (λ s. anyBelow n (λ q. X q && δ v q s)) (λ s. anyBelow n (λ q. Y q && δ v q s) || (F s && anyBelow n (λ q. X q && δ v q s))) r
+unfoldable pub met_after : (ℕ → ℕ → ℕ → Bool) → ℕ → (ℕ → Bool) → List ℕ → (ℕ → Bool) → (ℕ → Bool) → ℕ → Bool
+met_after δ n F [] X Y r = Y r
+met_after δ n F (v ∷ vs) X Y r =
+    met_after δ n F vs (λ s. any_below n (λ q. X q && δ v q s)) (λ s. any_below n (λ q. Y q && δ v q s) || (F s && any_below n (λ q. X q && δ v q s))) r
 
-unfoldable pub ledBy : List ℕ → ℕ → ℕ → ℕ → Bool
-ledBy steps v x r = anyBelow 8 (λ q. hasBit x q && stepIn steps v q r)
+unfoldable pub led_by : List ℕ → ℕ → ℕ → ℕ → Bool
+led_by steps v x r = any_below 8 (λ q. has_bit x q && step_in steps v q r)
 
 pub record Extended (at size next : ℕ) (old : List ℕ) (i : ℕ) (new : List ℕ) : Type 0 where
   pub joined : (x : ℕ) → x < i → get_or new (at + size + x) 0 ≡ bit_or (get_or old (at + x) 0) next
   pub below : (t : ℕ) → t < at + size → get_or new t 0 ≡ get_or old t 0
 
 pub record Tabled (steps : List ℕ) (n v size : ℕ) (sets : List ℕ) : Type 0 where
-  pub places : (u x : ℕ) → u < v → x < 2 ^ n → Members (get_or sets (u * 256 + x) 0) (ledBy steps u x)
-  pub part : (x : ℕ) → x < size → Members (get_or sets (v * 256 + x) 0) (ledBy steps v x)
+  pub places : (u x : ℕ) → u < v → x < 2 ^ n → Members (get_or sets (u * 256 + x) 0) (led_by steps u x)
+  pub part : (x : ℕ) → x < size → Members (get_or sets (v * 256 + x) 0) (led_by steps v x)
 
 pub record Ending (steps : List ℕ) (n : ℕ) (vs : List ℕ) (q i ends : ℕ) : Type 0 where
   pub small : ends < 2 ^ n
-  pub whole : (r : ℕ) → after (stepIn steps) n (drop i vs) (hasBit ends) r ≡ after (stepIn steps) n vs (eqb q) r
+  pub whole : (r : ℕ) → after (step_in steps) n (drop i vs) (has_bit ends) r ≡ after (step_in steps) n vs (eqb q) r
 
 pub record Course (steps : List ℕ) (n accept : ℕ) (vs : List ℕ) (q i ends good : ℕ) : Type 0 where
   pub reach : Ending steps n vs q i ends
   pub good-small : good < 2 ^ n
-  pub good-whole : (r : ℕ) → metAfter (stepIn steps) n (hasBit accept) (drop i vs) (hasBit ends) (hasBit good) r
-      ≡ metAfter (stepIn steps) n (hasBit accept) vs (eqb q) (λ s. hasBit accept s && eqb q s) r
+  pub good-whole : (r : ℕ) → met_after (step_in steps) n (has_bit accept) (drop i vs) (has_bit ends) (has_bit good) r
+      ≡ met_after (step_in steps) n (has_bit accept) vs (eqb q) (λ s. has_bit accept s && eqb q s) r
 
 pub record Begun (q n accept ends good : ℕ) : Type 0 where
   pub own : q < n → ends ≡ 2 ^ q
@@ -54,10 +54,10 @@ pub record Going (steps : List ℕ) (n accept : ℕ) (vs : List ℕ) (q i ends g
   pub course : q < n → Course steps n accept vs q i ends good
 
 pub record Worded (steps : List ℕ) (n accept : ℕ) (vs : List ℕ) (q a b c d : ℕ) : Type 0 where
-  pub word-a : q < n → Word (stepIn steps) n (hasBit accept) vs q a
-  pub word-b : q + 1 < n → Word (stepIn steps) n (hasBit accept) vs (q + 1) b
-  pub word-c : q + 2 < n → Word (stepIn steps) n (hasBit accept) vs (q + 2) c
-  pub word-d : q + 3 < n → Word (stepIn steps) n (hasBit accept) vs (q + 3) d
+  pub word-a : q < n → Word (step_in steps) n (has_bit accept) vs q a
+  pub word-b : q + 1 < n → Word (step_in steps) n (has_bit accept) vs (q + 1) b
+  pub word-c : q + 2 < n → Word (step_in steps) n (has_bit accept) vs (q + 2) c
+  pub word-d : q + 3 < n → Word (step_in steps) n (has_bit accept) vs (q + 3) d
 
 pub record Stored (old : List ℕ) (q n word : ℕ) (new : List ℕ) : Type 0 where
   pub here : q < n → get_or new q 0 ≡ word

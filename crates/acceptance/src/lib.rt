@@ -1,10 +1,10 @@
 //! Acceptance of a run-in and a loop by an automaton, decided. Sets of states are bits: bit q stands for state q.
 ghost use Rattle.std.specs.Prelude.{◌≡◌, ◌^◌, ◌≤◌, ◌<◌};
-ghost use Rattle.base.specs.Bits.{hasBit};
+ghost use Rattle.base.specs.Bits.{has_bit};
 ghost use Rattle.automata.specs.WellFormed.{Below};
 ghost use Rattle.acceptance.specs.Decision.{decided};
 ghost use Rattle.acceptance.specs.Rule.{Usable, placed, Judged};
-ghost use Rattle.acceptance.specs.Table.{stepIn, Narrow, Filled};
+ghost use Rattle.acceptance.specs.Table.{step_in, Narrow, Filled};
 
 use automata::Automaton;
 
@@ -23,7 +23,7 @@ fn decide(
     cycle: &[u8],
 ) -> bool
     requires { (n ≤ 16) × (places ≤ 128) × (first < n) × (accept < 2 ^ n) × Narrow n steps.now × Below places stem.now × Below places cycle.now }
-    ensures { result ≡ decided (stepIn steps.now) n first (hasBit accept) stem.now cycle.now }
+    ensures { result ≡ decided (step_in steps.now) n first (has_bit accept) stem.now cycle.now }
 {
     if n <= 8 {
         return narrow::decide(steps, n, first, accept as u8, places, stem, cycle);

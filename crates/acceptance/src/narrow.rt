@@ -2,10 +2,10 @@
 // states to which its members lead: entry v * 256 + x for the set x at place v. So one look leads a set over a place.
 ghost use Rattle.std.specs.Prelude.{◌≡◌, ◌+◌, ◌*◌, ◌≤◌, ◌<◌, length, get_or, eqb};
 ghost use Rattle.std.specs.Int.Bits.{bit_and, bit_or};
-ghost use Rattle.base.specs.Bits.{hasBit, Members};
+ghost use Rattle.base.specs.Bits.{has_bit, Members};
 ghost use Rattle.automata.specs.WellFormed.{Below};
 ghost use Rattle.acceptance.specs.Decision.{after, decided};
-ghost use Rattle.acceptance.specs.Table.{stepIn, Narrow, Turned};
+ghost use Rattle.acceptance.specs.Table.{step_in, Narrow, Turned};
 ghost use Rattle.acceptance.specs.Sets.{Extended, Tabled, Begun, Worded, Stored, StoredFour};
 
 use crate::tour::close_up;
@@ -196,7 +196,7 @@ fn follow(
     first: usize,
 ) -> u8
     requires { (length sets.now ≡ 32768) × (n ≤ 8) × (places ≤ 128) × (first < n) × Narrow n steps.now × Tabled steps.now n places 0 sets.now × Below places list.now }
-    ensures { Members result (after (stepIn steps.now) n list.now (eqb first)) }
+    ensures { Members result (after (step_in steps.now) n list.now (eqb first)) }
 {
     let mut reached = one(first) as u8;
     let mut i = 0;
@@ -222,7 +222,7 @@ fn decide_in(
     links: &mut [u64; 32],
 ) -> bool
     requires { (length sets.old ≡ 32768) × (n ≤ 8) × (places ≤ 128) × (first < n) × Narrow n steps.now × Below places stem.now × Below places cycle.now }
-    ensures { result ≡ decided (stepIn steps.now) n first (hasBit accept) stem.now cycle.now }
+    ensures { result ≡ decided (step_in steps.now) n first (has_bit accept) stem.now cycle.now }
 {
     fill(steps, n, places, sets);
     let set = follow(steps, sets, n, places, stem, first);
@@ -241,7 +241,7 @@ pub fn decide(
     cycle: &[u8],
 ) -> bool
     requires { (n ≤ 8) × (places ≤ 128) × (first < n) × Narrow n steps.now × Below places stem.now × Below places cycle.now }
-    ensures { result ≡ decided (stepIn steps.now) n first (hasBit accept) stem.now cycle.now }
+    ensures { result ≡ decided (step_in steps.now) n first (has_bit accept) stem.now cycle.now }
 {
     let mut sets = [0u8; 32768];
     let mut rows = [0u64; 32];

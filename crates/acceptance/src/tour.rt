@@ -1,11 +1,11 @@
 // A tour read by way of a table of steps. Of the loop's turn there is a word for each state q: bit r tells that q leads to r, and bit
 // 32 + r that an accepting state is met on the way.
 ghost use Rattle.std.specs.Prelude.{◌≡◌, [], ◌+◌, ◌*◌, ◌/◌, ◌≤◌, ◌<◌, length, drop};
-ghost use Rattle.base.specs.Below.{anyBelow};
-ghost use Rattle.base.specs.Bits.{hasBit, Members};
+ghost use Rattle.base.specs.Below.{any_below};
+ghost use Rattle.base.specs.Bits.{has_bit, Members};
 ghost use Rattle.automata.specs.WellFormed.{Below};
 ghost use Rattle.acceptance.specs.Decision.{after, decided};
-ghost use Rattle.acceptance.specs.Table.{stepIn, gathered, Narrow, Marked, Turned, related, Linked, passing, Passed, returning, Closed};
+ghost use Rattle.acceptance.specs.Table.{step_in, gathered, Narrow, Marked, Turned, related, Linked, passing, Passed, returning, Closed};
 
 use automata::{has, one};
 
@@ -35,7 +35,7 @@ fn gather(table: &[u64], at: usize, set: u64) -> u64
 // The states to which the states of a set lead over the places of a list.
 fn follow(steps: &[u64; 4096], places: &[u8], set: u64) -> u64
     requires { Narrow 32 steps.now × Below 128 places.now × (set < 4294967296) }
-    ensures { Members result (after (stepIn steps.now) 32 places.now (hasBit set)) × (result < 4294967296) }
+    ensures { Members result (after (step_in steps.now) 32 places.now (has_bit set)) × (result < 4294967296) }
 {
     let mut reached = set;
     let mut i = 0;
@@ -174,7 +174,7 @@ fn comes_back(rows: &[u64; 32], links: &[u64], set: u64, s: usize) -> bool
 // Whether some state does.
 fn some_comes_back(n: usize, rows: &[u64; 32], links: &[u64], set: u64) -> bool
     requires { (n ≤ 32) × (length links.now ≡ 32) }
-    ensures { result ≡ anyBelow n (returning rows.now links.now set) }
+    ensures { result ≡ any_below n (returning rows.now links.now set) }
 {
     let mut s = 0;
     while s < n {
@@ -208,7 +208,7 @@ fn decide_in(
     links: &mut [u64; 32],
 ) -> bool
     requires { Narrow n steps.now × (n ≤ 32) × (first < n) × Below 128 stem.now × Below 128 cycle.now }
-    ensures { result ≡ decided (stepIn steps.now) n first (hasBit accept) stem.now cycle.now }
+    ensures { result ≡ decided (step_in steps.now) n first (has_bit accept) stem.now cycle.now }
 {
     let set = follow(steps, stem, one(first));
     turn(steps, n, accept, cycle, rows);
@@ -224,7 +224,7 @@ pub fn decide(
     cycle: &[u8],
 ) -> bool
     requires { Narrow n steps.now × (n ≤ 32) × (first < n) × Below 128 stem.now × Below 128 cycle.now }
-    ensures { result ≡ decided (stepIn steps.now) n first (hasBit accept) stem.now cycle.now }
+    ensures { result ≡ decided (step_in steps.now) n first (has_bit accept) stem.now cycle.now }
 {
     let mut rows = [0u64; 32];
     let mut links = [0u64; 32];

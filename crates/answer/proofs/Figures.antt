@@ -4,8 +4,8 @@
 use mathlib.Core.Path.{◌≡◌, refl}
 use mathlib.Core.List.{[], ◌∷◌, ◌++◌}
 use Rattle.answer.specs.Block.{little, block_of}
-use Rattle.text.specs.Decimal.{digitsOf, decimal}
-use Rattle.text.specs.KeyLine.{joined, keyLine}
+use Rattle.text.specs.Decimal.{digits_of, decimal}
+use Rattle.text.specs.KeyLine.{joined, key_line}
 use Rattle.answer.specs.Text.{figures, text_of}
 use Rattle.answer.specs.declared.Answer.{Answer}
 
@@ -19,14 +19,14 @@ pub figure-text : text_of refused [] []
     ++ ((99 ∷ 111 ∷ 115 ∷ 116 ∷ 61 ∷ 48 ∷ 10 ∷ [])
     ++ ((107 ∷ 101 ∷ 112 ∷ 116 ∷ 61 ∷ 48 ∷ 10 ∷ [])
     ++ ((114 ∷ 117 ∷ 110 ∷ 105 ∷ 110 ∷ 61 ∷ 10 ∷ []) ++ (108 ∷ 111 ∷ 111 ∷ 112 ∷ 61 ∷ 10 ∷ [])))))
-unfolding digitsOf decimal joined keyLine figures text_of
+unfolding digits_of decimal joined key_line figures text_of
 figure-text = refl
 
-abbrev pub wideAnswer : Answer
-wideAnswer =
+abbrev pub wide_answer : Answer
+wide_answer =
     record { number = 0; line = 67305985; cost = 32000000; kept = 253; count = 7; stem = 2048; cycle = 20480 }
 
-pub figure-block : block_of wideAnswer
+pub figure-block : block_of wide_answer
     ≡ 0 ∷ 253 ∷ 7 ∷ 0 ∷ 1 ∷ 2 ∷ 3 ∷ 4 ∷ 0 ∷ 72 ∷ 232 ∷ 1 ∷ 0 ∷ 8 ∷ 0 ∷ 80 ∷ []
 unfolding little block_of
 figure-block = refl

@@ -8,9 +8,9 @@ use Prim.Native.Nat.{ℕ, ◌+◌, ◌*◌, ◌≤◌, ◌<◌}
 use native.Mathlib.Omega.{arith}
 use lib.ListN.{length, length-append}
 use Rattle.text.specs.Decimal.{decimal}
-use Rattle.text.specs.KeyLine.{joined, keyLine}
+use Rattle.text.specs.KeyLine.{joined, key_line}
 use Rattle.text.proofs.KeyLines.{Bytes, joined_length, number-length, line-length}
-use Rattle.answer.specs.Text.{answerKey, line_key, costKey, keptKey, runinKey, loopKey, figures, text_of}
+use Rattle.answer.specs.Text.{answer_key, line_key, cost_key, kept_key, runin_key, loop_key, figures, text_of}
 use Rattle.answer.specs.declared.Answer.{Answer}
 
 pub figures-length : (a : Answer) → a.number < 4294967296 → a.line < 4294967296 → a.cost < 4294967296
@@ -35,10 +35,10 @@ text-length a stem cycle h hs hc =
 -- the text as its six lines, one behind the other
 abbrev pub lines_of : Answer → List ℕ → List ℕ → List ℕ
 lines_of a stem cycle =
-    keyLine answerKey (decimal a.number)
-    ++ (keyLine line_key (decimal a.line)
-    ++ (keyLine costKey (decimal a.cost)
-    ++ (keyLine keptKey (decimal a.kept) ++ (keyLine runinKey (joined stem) ++ (keyLine loopKey (joined cycle) ++ [])))))
+    key_line answer_key (decimal a.number)
+    ++ (key_line line_key (decimal a.line)
+    ++ (key_line cost_key (decimal a.cost)
+    ++ (key_line kept_key (decimal a.kept) ++ (key_line runin_key (joined stem) ++ (key_line loop_key (joined cycle) ++ [])))))
 
 pub text-lines : (a : Answer) (stem cycle : List ℕ) → text_of a stem cycle ≡ lines_of a stem cycle
 unfolding figures text_of

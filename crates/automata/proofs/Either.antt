@@ -14,9 +14,9 @@ use native.Mathlib.Omega.{arith}
 use lib.ListN.{get_or}
 use lib.Bits.{bit_and, bit_or}
 use lib.Dec.{eqb}
-use Rattle.base.specs.Below.{anyBelow}
+use Rattle.base.specs.Below.{any_below}
 use Rattle.base.specs.Bits.{bit}
-use Rattle.automata.specs.Automaton.{guard, move, opens, moveCount, fits, leads, step, blocked}
+use Rattle.automata.specs.Automaton.{guard, move, opens, move_count, fits, leads, step, blocked}
 use Rattle.automata.specs.declared.Automaton.{Automaton}
 use Rattle.automata.specs.declared.Move.{Move}
 use Rattle.base.proofs.Tests.{bool_same, or_left, or_right, or_elim}
@@ -136,13 +136,13 @@ pub record SplitMove (a b : Automaton) : Type 0 where
   pub lacks-j : bit m.need j ≡ 0
   pub others : ℕ → Move
   pub n : ℕ
-  pub whole : Relisted (move a) (moveCount a) (first_then m others) (suc n)
-  pub halves : Relisted (move b) (moveCount b) (first_then (half i m) (first_then (half j m) others)) (suc (suc n))
+  pub whole : Relisted (move a) (move_count a) (first_then m others) (suc n)
+  pub halves : Relisted (move b) (move_count b) (first_then (half i m) (first_then (half j m) others)) (suc (suc n))
 
-any-first : (p : Move → Bool) (m : Move) (xs : ℕ → Move) (n : ℕ) → anyBelow (suc n) (λ k. p (first_then m xs k)) ≡ p m || anyBelow n (λ k. p (xs k))
-unfolding anyBelow first_then
+any-first : (p : Move → Bool) (m : Move) (xs : ℕ → Move) (n : ℕ) → any_below (suc n) (λ k. p (first_then m xs k)) ≡ p m || any_below n (λ k. p (xs k))
+unfolding any_below first_then
 any-first p m xs zero = sym (or-false (p m))
-any-first p m xs (suc n) = ap (λ b. b || p (xs n)) (any-first p m xs n) ∙ or_assoc (p m) (anyBelow n (λ k. p (xs k))) (p (xs n))
+any-first p m xs (suc n) = ap (λ b. b || p (xs n)) (any-first p m xs n) ∙ or_assoc (p m) (any_below n (λ k. p (xs k))) (p (xs n))
 
 and-or : (l g h : Bool) → (l && (g || h)) ≡ ((l && g) || (l && h))
 and-or true g h = refl
@@ -166,15 +166,15 @@ module _ (a b : Automaton) (s : SplitMove a b) where
   split-opens : (x : ℕ) → opens x s.m ≡ opens x one || opens x other
   split-opens x = rw s.either (guard-sum x s.m.need s.m.bar s.i s.j s.apart s.lacks-i s.lacks-j)
 
-  split-any : (p : Move → Bool) → p s.m ≡ p one || p other → anyBelow (moveCount a) (λ k. p (move a k)) ≡ anyBelow (moveCount b) (λ k. p (move b k))
+  split-any : (p : Move → Bool) → p s.m ≡ p one || p other → any_below (move_count a) (λ k. p (move a k)) ≡ any_below (move_count b) (λ k. p (move b k))
   split-any p e =
-      any-relisted p (move a) (moveCount a) (first_then s.m s.others) (suc s.n) s.whole
+      any-relisted p (move a) (move_count a) (first_then s.m s.others) (suc s.n) s.whole
       ∙ any-first p s.m s.others s.n
-      ∙ ap (λ t. t || anyBelow s.n (λ k. p (s.others k))) e
-      ∙ or_assoc (p one) (p other) (anyBelow s.n (λ k. p (s.others k)))
+      ∙ ap (λ t. t || any_below s.n (λ k. p (s.others k))) e
+      ∙ or_assoc (p one) (p other) (any_below s.n (λ k. p (s.others k)))
       ∙ ap (λ t. p one || t) (sym (any-first p other s.others s.n))
       ∙ sym (any-first p one (first_then other s.others) (suc s.n))
-      ∙ sym (any-relisted p (move b) (moveCount b) (first_then one (first_then other s.others)) (suc (suc s.n)) s.halves)
+      ∙ sym (any-relisted p (move b) (move_count b) (first_then one (first_then other s.others)) (suc (suc s.n)) s.halves)
 
   split_step : (x q r : ℕ) → step a x q r ≡ step b x q r
   unfolding step leads fits

@@ -19,8 +19,8 @@ use Prim.Native.Nat.{ℕ, suc, ◌+◌, ◌-◌, ◌≤◌, ◌<◌}
 use native.Mathlib.Decide.{dec_lt, ℕ_discrete}
 use native.Mathlib.Omega.{arith}
 use lib.Dec.{eqb}
-use Rattle.base.specs.Below.{anyBelow}
-use Rattle.automata.specs.Automaton.{move, opens, moveCount, fits, leads, step, blocked, trapStep, final}
+use Rattle.base.specs.Below.{any_below}
+use Rattle.automata.specs.Automaton.{move, opens, move_count, fits, leads, step, blocked, trap_step, final}
 use Rattle.automata.specs.Acceptance.{Accepting, HardAccepts, SoftAccepts}
 use Rattle.automata.specs.declared.Automaton.{Automaton}
 use Rattle.automata.specs.declared.Move.{Move}
@@ -52,10 +52,10 @@ module _ {A : Type 0} where
   relisted-sym r = record { there = r.back; back = r.there }
 
   pub any-relisted : (p : A → Bool) (xs : ℕ → A) (n : ℕ) (ys : ℕ → A) (m : ℕ) → Relisted xs n ys m
-      → anyBelow n (λ i. p (xs i)) ≡ anyBelow m (λ i. p (ys i))
+      → any_below n (λ i. p (xs i)) ≡ any_below m (λ i. p (ys i))
   any-relisted p xs n ys m r = bool_same _ _ (to xs n ys m r.there) (to ys m xs n r.back)
     where
-      to : (xs : ℕ → A) (n : ℕ) (ys : ℕ → A) (m : ℕ) → Among xs n ys m → anyBelow n (λ i. p (xs i)) ≡ true → anyBelow m (λ i. p (ys i)) ≡ true
+      to : (xs : ℕ → A) (n : ℕ) (ys : ℕ → A) (m : ℕ) → Among xs n ys m → any_below n (λ i. p (xs i)) ≡ true → any_below m (λ i. p (ys i)) ≡ true
       to xs n ys m among h =
           let e = any-elim (λ i. p (xs i)) n h in
           let f = among.found e.0 e.1 in
@@ -79,19 +79,19 @@ pub record SameMoves (a b : Automaton) : Type 0 where
   pub states : a.states ≡ b.states
   pub first : a.first ≡ b.first
   pub accept : a.accept ≡ b.accept
-  pub moves : Relisted (move a) (moveCount a) (move b) (moveCount b)
+  pub moves : Relisted (move a) (move_count a) (move b) (move_count b)
 
 pub record RepeatedMove (a b : Automaton) : Type 0 where
   pub states : a.states ≡ b.states
   pub first : a.first ≡ b.first
   pub accept : a.accept ≡ b.accept
-  pub moves : Repeated (move a) (moveCount a) (move b) (moveCount b)
+  pub moves : Repeated (move a) (move_count a) (move b) (move_count b)
 
 pub repeated-same : {a b : Automaton} → RepeatedMove a b → SameMoves a b
 repeated-same r = record { states = r.states; first = r.first; accept = r.accept; moves = repeated-relisted r.moves }
 
 pub same_refl : (a : Automaton) → SameMoves a a
-same_refl a = record { states = refl; first = refl; accept = refl; moves = relisted-refl (move a) (moveCount a) }
+same_refl a = record { states = refl; first = refl; accept = refl; moves = relisted-refl (move a) (move_count a) }
 
 pub same-sym : {a b : Automaton} → SameMoves a b → SameMoves b a
 same-sym s = record { states = sym s.states; first = sym s.first; accept = sym s.accept; moves = relisted-sym s.moves }
@@ -104,8 +104,8 @@ pub record Alike (a b : Automaton) : Type 0 where
   pub blocks : (x q : ℕ) → blocked a x q ≡ blocked b x q
 
 module _ (a b : Automaton) (s : Alike a b) where
-  pub alike-trap : (x q r : ℕ) → trapStep a x q r ≡ trapStep b x q r
-  unfolding trapStep
+  pub alike-trap : (x q r : ℕ) → trap_step a x q r ≡ trap_step b x q r
+  unfolding trap_step
   alike-trap x q r = rw (s.blocks x q, s.steps x q r, s.states)
 
   alike-final : (q : ℕ) → final a q ≡ final b q
@@ -121,11 +121,11 @@ module _ (a b : Automaton) (s : Alike a b) where
 module _ (a b : Automaton) (s : SameMoves a b) where
   same_step : (x q r : ℕ) → step a x q r ≡ step b x q r
   unfolding step leads fits
-  same_step x q r = any-relisted (λ (m : Move). (eqb m.from q && opens x m) && eqb m.to r) (move a) (moveCount a) (move b) (moveCount b) s.moves
+  same_step x q r = any-relisted (λ (m : Move). (eqb m.from q && opens x m) && eqb m.to r) (move a) (move_count a) (move b) (move_count b) s.moves
 
   same-blocked : (x q : ℕ) → blocked a x q ≡ blocked b x q
   unfolding blocked fits
-  same-blocked x q = ap not (any-relisted (λ (m : Move). eqb m.from q && opens x m) (move a) (moveCount a) (move b) (moveCount b) s.moves)
+  same-blocked x q = ap not (any-relisted (λ (m : Move). eqb m.from q && opens x m) (move a) (move_count a) (move b) (move_count b) s.moves)
 
   pub same_alike : Alike a b
   same_alike = record { states = s.states; first = s.first; accept = s.accept; steps = same_step; blocks = same-blocked }
@@ -137,7 +137,7 @@ module _ {a b : Automaton} (again : RepeatedMove a b) where
   pub repeated-step : (x q r : ℕ) → step a x q r ≡ step b x q r
   repeated-step = repeated-alike.steps
 
-  pub repeated-trap : (x q r : ℕ) → trapStep a x q r ≡ trapStep b x q r
+  pub repeated-trap : (x q r : ℕ) → trap_step a x q r ≡ trap_step b x q r
   repeated-trap = alike-trap a b repeated-alike
 
   pub repeated-hard : (w : ℕ → ℕ) (r l : ℕ) → HardAccepts a w r l ≡ HardAccepts b w r l

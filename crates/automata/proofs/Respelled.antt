@@ -14,7 +14,7 @@ use native.Mathlib.Decide.{dec_lt}
 use native.Mathlib.Omega.{arith}
 use lib.ListN.{length, get_or, length-append, get_or-append}
 use lib.Seq.{get_or-append-add}
-use Rattle.automata.specs.Acceptance.{Accepting, lassoAt}
+use Rattle.automata.specs.Acceptance.{Accepting, lasso_at}
 use Rattle.automata.proofs.Lassos.{lasso-stem, lasso-cycle, lasso-period}
 use Rattle.automata.proofs.Unroll.{Recurring, recurring, periodic}
 
@@ -44,20 +44,20 @@ doubled-at cycle filled i = rw (length-append cycle cycle, rest) (at (dec_lt m l
         let f : m % l ≡ k = ap (λ j. j % l) (sym e) ∙ add-mod_left l k ∙ mod-eq_of_lt g in
         ap (λ j. get_or (cycle ++ cycle) j 0) (sym e) ∙ get_or-append-add cycle cycle k 0 ∙ ap (λ j. get_or cycle j 0) (sym f)
 
-pub lasso-doubled : (stem cycle : List ℕ) (t : ℕ) → lassoAt stem (cycle ++ cycle) t ≡ lassoAt stem cycle t
+pub lasso-doubled : (stem cycle : List ℕ) (t : ℕ) → lasso_at stem (cycle ++ cycle) t ≡ lasso_at stem cycle t
 lasso-doubled stem [] t = refl
 lasso-doubled stem (x ∷ xs) t = at (dec_lt t (length stem))
   where
     cycle : List ℕ
     cycle = x ∷ xs
 
-    at : Dec (t < length stem) → lassoAt stem (cycle ++ cycle) t ≡ lassoAt stem cycle t
+    at : Dec (t < length stem) → lasso_at stem (cycle ++ cycle) t ≡ lasso_at stem cycle t
     at (yes h) = lasso-stem stem (cycle ++ cycle) t h ∙ sym (lasso-stem stem cycle t h)
     at (no h) =
         let g : length stem ≤ t = omega arith in
         lasso-cycle stem (cycle ++ cycle) t g ∙ doubled-at cycle (omega arith) (t - length stem) ∙ sym (lasso-cycle stem cycle t g)
 
-pub lasso-turned : (stem cycle : List ℕ) (t : ℕ) → lassoAt (stem ++ cycle) cycle t ≡ lassoAt stem cycle t
+pub lasso-turned : (stem cycle : List ℕ) (t : ℕ) → lasso_at (stem ++ cycle) cycle t ≡ lasso_at stem cycle t
 lasso-turned stem cycle t = at (dec_lt t r) (dec_lt t (r + l))
   where
     r : ℕ
@@ -69,7 +69,7 @@ lasso-turned stem cycle t = at (dec_lt t r) (dec_lt t (r + l))
     longer : length (stem ++ cycle) ≡ r + l
     longer = length-append stem cycle
 
-    at : Dec (t < r) → Dec (t < r + l) → lassoAt (stem ++ cycle) cycle t ≡ lassoAt stem cycle t
+    at : Dec (t < r) → Dec (t < r + l) → lasso_at (stem ++ cycle) cycle t ≡ lasso_at stem cycle t
     at (yes h) d = lasso-stem (stem ++ cycle) cycle t (omega (arith, longer)) ∙ get_or-append stem cycle 0 t h ∙ sym (lasso-stem stem cycle t h)
     at (no h) (yes g) =
         let i : ℕ = t - r in
@@ -88,7 +88,7 @@ lasso-turned stem cycle t = at (dec_lt t r) (dec_lt t (r + l))
         ∙ sym (lasso-cycle stem cycle t (omega arith))
 
 abbrev pub Accepts : (ℕ → ℕ → ℕ → Bool) → ℕ → (ℕ → Bool) → (ℕ → ℕ) → List ℕ → List ℕ → Type 0
-Accepts δ q₀ F label stem cycle = Accepting δ q₀ F (λ t. label (lassoAt stem cycle t)) (length stem) (length cycle)
+Accepts δ q₀ F label stem cycle = Accepting δ q₀ F (λ t. label (lasso_at stem cycle t)) (length stem) (length cycle)
 
 module _ {δ : ℕ → ℕ → ℕ → Bool} {q₀ : ℕ} {F : ℕ → Bool} {w : ℕ → ℕ} where
   -- the same run, where its turns end at the same steps
@@ -132,13 +132,13 @@ module _ (δ : ℕ → ℕ → ℕ → Bool) (q₀ : ℕ) (F : ℕ → Bool) (la
   l = length cycle
 
   abbrev w : ℕ → ℕ
-  w t = label (lassoAt stem cycle t)
+  w t = label (lasso_at stem cycle t)
 
   rounds : 0 < l → (A : Accepting δ q₀ F w r l) → Recurring δ q₀ F w (r + A.a * l) (A.b * l)
   rounds filled = recurring δ q₀ F w r l filled (λ t h. ap label (lasso-period stem cycle t h))
 
   -- another spelling of the same places, r' and l' being the lengths of its run-in and of its loop
-  respelled : (stem' cycle' : List ℕ) → ((t : ℕ) → lassoAt stem' cycle' t ≡ lassoAt stem cycle t)
+  respelled : (stem' cycle' : List ℕ) → ((t : ℕ) → lasso_at stem' cycle' t ≡ lasso_at stem cycle t)
       → (r' l' : ℕ) → length stem' ≡ r' → length cycle' ≡ l'
       → Accepting δ q₀ F w r' l' ≡ Accepts δ q₀ F label stem' cycle'
   respelled stem' cycle' same r' l' er el = λ i. Accepting δ q₀ F (λ t. label (sym (same t) i)) (sym er i) (sym el i)

@@ -15,7 +15,7 @@ use borrow.Author.Tests.{eq-eqb, ne_eqb}
 use lib.ListN.{length, get_or, set, length-set}
 use lib.Seq.{get_or-set_same, get_or-set_other}
 use lib.Dec.{eqb}
-use Rattle.base.specs.Below.{anyBelow}
+use Rattle.base.specs.Below.{any_below}
 use Rattle.base.specs.Marks.{marks}
 
 module _ (cell : ℕ → ℕ) where
@@ -30,13 +30,13 @@ module _ (cell : ℕ → ℕ) where
   marks-apart (suc n) l i h =
       get_or-set_other (marks cell n l) (cell n) i 1 0 (λ e. h n (omega arith) (sym e)) ∙ marks-apart n l i (λ t k. h t (omega arith))
 
-  pub marks-at : (n : ℕ) (l : List ℕ) (i : ℕ) → i < length l → get_or (marks cell n l) i 0 ≡ cond (anyBelow n (λ t. eqb (cell t) i)) 1 (get_or l i 0)
-  unfolding marks anyBelow
+  pub marks-at : (n : ℕ) (l : List ℕ) (i : ℕ) → i < length l → get_or (marks cell n l) i 0 ≡ cond (any_below n (λ t. eqb (cell t) i)) 1 (get_or l i 0)
+  unfolding marks any_below
   marks-at zero l i h = refl
   marks-at (suc n) l i h = at (ℕ_discrete (cell n) i) (marks-at n l i h)
     where
-      at : Dec (cell n ≡ i) → get_or (marks cell n l) i 0 ≡ cond (anyBelow n (λ t. eqb (cell t) i)) 1 (get_or l i 0)
-          → get_or (set (marks cell n l) (cell n) 1) i 0 ≡ cond (anyBelow n (λ t. eqb (cell t) i) || eqb (cell n) i) 1 (get_or l i 0)
+      at : Dec (cell n ≡ i) → get_or (marks cell n l) i 0 ≡ cond (any_below n (λ t. eqb (cell t) i)) 1 (get_or l i 0)
+          → get_or (set (marks cell n l) (cell n) 1) i 0 ≡ cond (any_below n (λ t. eqb (cell t) i) || eqb (cell n) i) 1 (get_or l i 0)
       at (yes e) ih =
           rw (eq-eqb (cell n) i e, or-true, e) (get_or-set_same (marks cell n l) i 1 0 (let z : i < length (marks cell n l) = omega (arith, marks-length n l) in z))
       at (no e) ih = rw (ne_eqb (cell n) i e, or-false) (get_or-set_other (marks cell n l) (cell n) i 1 0 (λ k. e (sym k)) ∙ ih)

@@ -16,7 +16,7 @@ use borrow.Author.Tests.{eq-eqb, ne_eqb, eqb-true}
 use lib.Bits.{bit_and, bit_or, and_le_r}
 use lib.Count.{count_trailing_zeros, under}
 use lib.Dec.{eqb}
-use Rattle.base.specs.Bits.{bit, hasBit, Members}
+use Rattle.base.specs.Bits.{bit, has_bit, Members}
 use Rattle.base.proofs.Tests.{false-not-true}
 use Rattle.base.proofs.Bits.{bit-lt, bit-zero, bit-and, bit-or, bit-ext, bits-lt, bit-add-same, bit-add-other}
 
@@ -29,7 +29,7 @@ members-one i = record { has = λ k. at k (ℕ_discrete i k) }
     alone : 2 ^ i ≡ 0 + 2 ^ i
     alone = omega arith
 
-    at : (k : ℕ) → Dec (i ≡ k) → hasBit (2 ^ i) k ≡ eqb i k
+    at : (k : ℕ) → Dec (i ≡ k) → has_bit (2 ^ i) k ≡ eqb i k
     at k (yes e) = rw (eq-eqb i k e, ← e) (eq-eqb _ _ (ap (λ m. bit m i) alone ∙ bit-add-same i 0 (bit-zero i)))
     at k (no e) =
         let z : bit (2 ^ i) k ≡ 0 = ap (λ m. bit m k) alone ∙ bit-add-other i k 0 (bit-zero i) (λ s. e (sym s)) ∙ bit-zero k in
@@ -42,7 +42,7 @@ or-bits (suc zero) (suc zero) hx hy = refl
 or-bits (suc zero) (suc (suc y)) hx hy = absurd (omega arith)
 or-bits (suc (suc x)) y hx hy = absurd (omega arith)
 
-pub has-or : (a b i : ℕ) → hasBit (bit_or a b) i ≡ hasBit a i || hasBit b i
+pub has-or : (a b i : ℕ) → has_bit (bit_or a b) i ≡ has_bit a i || has_bit b i
 has-or a b i = ap (λ m. eqb m 1) (bit-or a b i) ∙ or-bits (bit a i) (bit b i) (bit-lt a i) (bit-lt b i)
 
 and-bits : (x y : ℕ) → x < 2 → y < 2 → eqb (min x y) 1 ≡ eqb x 1 && eqb y 1
@@ -52,7 +52,7 @@ and-bits (suc zero) (suc zero) hx hy = refl
 and-bits (suc zero) (suc (suc y)) hx hy = absurd (omega arith)
 and-bits (suc (suc x)) y hx hy = absurd (omega arith)
 
-pub has-and : (a b i : ℕ) → hasBit (bit_and a b) i ≡ hasBit a i && hasBit b i
+pub has-and : (a b i : ℕ) → has_bit (bit_and a b) i ≡ has_bit a i && has_bit b i
 has-and a b i = ap (λ m. eqb m 1) (bit-and a b i) ∙ and-bits (bit a i) (bit b i) (bit-lt a i) (bit-lt b i)
 
 pub members-or : {a b : ℕ} {P Q : ℕ → Bool} → Members a P → Members b Q → Members (bit_or a b) (λ i. P i || Q i)
@@ -61,14 +61,14 @@ members-or {a} {b} p q = record { has = λ i. has-or a b i ∙ rw (p.has i, q.ha
 pub members-same : {m : ℕ} {P Q : ℕ → Bool} → ((i : ℕ) → P i ≡ Q i) → Members m P → Members m Q
 members-same e p = record { has = λ i. p.has i ∙ e i }
 
-bit-unset : (m i : ℕ) → hasBit m i ≡ false → bit m i ≡ 0
+bit-unset : (m i : ℕ) → has_bit m i ≡ false → bit m i ≡ 0
 bit-unset m i h = at (ℕ_discrete (bit m i) 1)
   where
     at : Dec (bit m i ≡ 1) → bit m i ≡ 0
     at (yes e) = absurd (false-not-true (eq-eqb _ _ e) h)
     at (no e) = omega (arith, bit-lt m i)
 
-pub or-member : (m i : ℕ) → hasBit m i ≡ true → bit_or m (2 ^ i) ≡ m
+pub or-member : (m i : ℕ) → has_bit m i ≡ true → bit_or m (2 ^ i) ≡ m
 or-member m i h = bit-ext (bit_or m (2 ^ i)) m (λ k. bit-or m (2 ^ i) k ∙ at k (ℕ_discrete i k))
   where
     at : (k : ℕ) → Dec (i ≡ k) → max (bit m k) (bit (2 ^ i) k) ≡ bit m k

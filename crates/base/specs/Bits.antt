@@ -1,6 +1,6 @@
 -- Bits of a number.
 --   bit m i     == bit i of m, 0 or 1
---   hasBit m i  == bit i of m is set
+--   has_bit m i  == bit i of m is set
 --   Members m P == m is the set of the numbers with the property P, as bits
 use Rattle.std.specs.Prelude.{◌≡◌, Bool, ℕ, zero, suc, ◌/◌, ◌%◌, eqb}
 
@@ -8,8 +8,8 @@ unfoldable pub bit : ℕ → ℕ → ℕ
 bit m zero = m % 2
 bit m (suc i) = bit (m / 2) i
 
-abbrev pub hasBit : ℕ → ℕ → Bool
-hasBit m i = eqb (bit m i) 1
+abbrev pub has_bit : ℕ → ℕ → Bool
+has_bit m i = eqb (bit m i) 1
 
 pub record Members (m : ℕ) (P : ℕ → Bool) : Type 0 where
-  pub has : (i : ℕ) → hasBit m i ≡ P i
+  pub has : (i : ℕ) → has_bit m i ≡ P i

@@ -1,5 +1,5 @@
 -- The least number with a property.
---   leastBelow n p == the least number below n that has the property p, if there is one
+--   least_below n p == the least number below n that has the property p, if there is one
 use Rattle.std.specs.Prelude.{Bool, cond, ℕ, zero, suc}
 
 pub data Found : Type 0 where
@@ -10,6 +10,6 @@ abbrev pub or_else : Found → Found → Found
 or_else nowhere x = x
 or_else (at i) x = at i
 
-unfoldable pub leastBelow : ℕ → (ℕ → Bool) → Found
-leastBelow zero p = nowhere
-leastBelow (suc n) p = or_else (leastBelow n p) (cond (p n) (at n) nowhere)
+unfoldable pub least_below : ℕ → (ℕ → Bool) → Found
+least_below zero p = nowhere
+least_below (suc n) p = or_else (least_below n p) (cond (p n) (at n) nowhere)

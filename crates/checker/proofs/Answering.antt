@@ -20,19 +20,19 @@ use Rattle.base.specs.Least.{Found, nowhere, at}
 use Rattle.base.proofs.Tests.{false-not-true}
 use Rattle.automata.proofs.Respelled.{accepts-doubled, accepts-turned}
 use Rattle.plan.specs.WellFormed.{WellFormed}
-use Rattle.plan.specs.Size.{tooLarge}
+use Rattle.plan.specs.Size.{too_large}
 use Rattle.plan.specs.Tour.{label, IsLasso, Hard, Soft}
 use Rattle.plan.specs.Cost.{keeps, KeptIs, cost}
 use Rattle.plan.specs.declared.Plan.{Plan}
 use Rattle.plan.specs.declared.Refusal.TheVariants.{ProductTooLarge}
 use Rattle.plan.proofs.Sums.{kept-ext}
 use Rattle.reader.specs.Outcome as reader
-use Rattle.reader.specs.Reading.{readPlan}
+use Rattle.reader.specs.Reading.{read_plan}
 use Rattle.reader.specs.declared.Outcome.{Outcome}
 use Rattle.reader.specs.declared.Outcome.TheVariants as outcome
 use Rattle.reader.proofs.Answers.{Early, read-early}
-use Rattle.checker.specs.Break.{firstBreak}
-use Rattle.checker.specs.Check.{Ruling, refuse, judge, byBreak, ruling, Worthy, Ruled, RuledOf, CheckOf, number, index_of}
+use Rattle.checker.specs.Break.{first_break}
+use Rattle.checker.specs.Check.{Ruling, refuse, judge, by_break, ruling, Worthy, Ruled, RuledOf, CheckOf, number, index_of}
 use Rattle.checker.specs.Outcome.{held}
 use Rattle.checker.specs.declared.Worth.{Worth}
 use Rattle.checker.specs.declared.Check.{Check}
@@ -65,10 +65,10 @@ ruled-same (refuse x) stem cycle c c' h h' = h ∙ sym h'
 ruled-same (judge p) stem cycle c c' h h' = h.told ∙ ap Tour (worthy-same h.worthy h'.worthy) ∙ sym h'.told
 
 pub check-same : (file stem cycle : List ℕ) (c c' : Check) → CheckOf file stem cycle c → CheckOf file stem cycle c' → c ≡ c'
-check-same file stem cycle c c' h h' = ruled-same (ruling (readPlan file).outcome (readPlan file).plan stem cycle) stem cycle c c' h h'
+check-same file stem cycle c c' h h' = ruled-same (ruling (read_plan file).outcome (read_plan file).plan stem cycle) stem cycle c c' h h'
 
 record Respelled (stem cycle stem' cycle' : List ℕ) : Type 0 where
-  breaks : (p : Plan) → firstBreak p stem' cycle' ≡ firstBreak p stem cycle
+  breaks : (p : Plan) → first_break p stem' cycle' ≡ first_break p stem cycle
   hard : (p : Plan) → Hard p stem cycle ↔ Hard p stem' cycle'
   soft : (p : Plan) (i : ℕ) → Soft p stem cycle i ↔ Soft p stem' cycle' i
 
@@ -105,7 +105,7 @@ module _ {stem cycle stem' cycle' : List ℕ} (s : Respelled stem cycle stem' cy
   ruling-respelled : (o : Outcome) (p : Plan) → ruling o p stem cycle ≡ ruling o p stem' cycle'
   unfolding ruling
   ruling-respelled (outcome.Refused x) p = refl
-  ruling-respelled outcome.Plan p = ap (λ f. cond (tooLarge p) (refuse ProductTooLarge) (byBreak p f)) (sym (s.breaks p))
+  ruling-respelled outcome.Plan p = ap (λ f. cond (too_large p) (refuse ProductTooLarge) (by_break p f)) (sym (s.breaks p))
 
   ruled-respelled : (r : Ruling) (c : Check) → Ruled r stem cycle c → Ruled r stem' cycle' c
   unfolding Ruled
@@ -114,8 +114,8 @@ module _ {stem cycle stem' cycle' : List ℕ} (s : Respelled stem cycle stem' cy
 
   check-respelled : (file : List ℕ) (c : Check) → CheckOf file stem cycle c → CheckOf file stem' cycle' c
   check-respelled file c h =
-      let o = (readPlan file).outcome in
-      let p = (readPlan file).plan in
+      let o = (read_plan file).outcome in
+      let p = (read_plan file).plan in
       subst (λ r. Ruled r stem' cycle' c) (ruling-respelled o p) (ruled-respelled (ruling o p stem cycle) c h)
 
 module _ (file stem cycle : List ℕ) (c : Check) (h : CheckOf file stem cycle c) where
@@ -132,7 +132,7 @@ module _ (file stem cycle : List ℕ) (c : Check) (h : CheckOf file stem cycle c
   respelled-turned c' = check-same file (stem ++ cycle) cycle c c' check-turned
 
 module _ (p : Plan) (stem cycle : List ℕ) where
-  tour-judged : WellFormed p → tooLarge p ≡ false → IsLasso p stem cycle → ruling outcome.Plan p stem cycle ≡ judge p
+  tour-judged : WellFormed p → too_large p ≡ false → IsLasso p stem cycle → ruling outcome.Plan p stem cycle ≡ judge p
   unfolding ruling
   tour-judged ok fits lasso = rw (fits, lasso-whole p stem cycle ok lasso)
 
@@ -145,24 +145,24 @@ module _ (p : Plan) (stem cycle : List ℕ) where
     worthy = record { accepted = λ e. hard; refused = λ e. absurd (false-not-true refl e); kept = kept; cost = refl };
   }
 
-  pub own-worth : (k : ℕ) (c : Check) → WellFormed p → tooLarge p ≡ false → IsLasso p stem cycle → Hard p stem cycle → KeptIs p stem cycle k
+  pub own-worth : (k : ℕ) (c : Check) → WellFormed p → too_large p ≡ false → IsLasso p stem cycle → Hard p stem cycle → KeptIs p stem cycle k
       → RuledOf outcome.Plan p stem cycle c → c ≡ Tour (record { accepts = true; kept = k; cost = cost p k })
   own-worth k c ok fits lasso hard kept h =
       ruled-same (judge p) stem cycle c _ (subst (λ r. Ruled r stem cycle c) (tour-judged ok fits lasso) h) (hard-ruled k hard kept)
 
 -- a plan file's own refusals have other numbers, and so has that by the plan's size
 broken : (o : Outcome) (p : Plan) (stem cycle : List ℕ) (c : Check) → Early (reader.number o) → RuledOf o p stem cycle c → number c ≡ 9
-    → (i : ℕ) × (firstBreak p stem cycle ≡ at i) × (index_of c ≡ held i)
+    → (i : ℕ) × (first_break p stem cycle ≡ at i) × (index_of c ≡ held i)
 unfolding ruling Ruled
 broken (outcome.Refused x) p stem cycle c early h n = absurd (early.none 9 (omega arith) (omega arith) (omega (arith, ap number h)))
-broken outcome.Plan p stem cycle c early h n = by (tooLarge p) (firstBreak p stem cycle) refl h
+broken outcome.Plan p stem cycle c early h n = by (too_large p) (first_break p stem cycle) refl h
   where
-    by : (large : Bool) (f : Found) → firstBreak p stem cycle ≡ f → Ruled (cond large (refuse ProductTooLarge) (byBreak p f)) stem cycle c
-        → (i : ℕ) × (firstBreak p stem cycle ≡ at i) × (index_of c ≡ held i)
+    by : (large : Bool) (f : Found) → first_break p stem cycle ≡ f → Ruled (cond large (refuse ProductTooLarge) (by_break p f)) stem cycle c
+        → (i : ℕ) × (first_break p stem cycle ≡ at i) × (index_of c ≡ held i)
     by true f e h = absurd (omega (arith, ap number h))
     by false nowhere e h = absurd (omega (arith, ap number h.told))
     by false (at i) e h = (i, e, ap index_of h)
 
 pub index-of : (file stem cycle : List ℕ) (c : Check) → CheckOf file stem cycle c → number c ≡ 9
-    → (i : ℕ) × (firstBreak (readPlan file).plan stem cycle ≡ at i) × (index_of c ≡ held i)
-index-of file stem cycle c = broken (readPlan file).outcome (readPlan file).plan stem cycle c (read-early file).0
+    → (i : ℕ) × (first_break (read_plan file).plan stem cycle ≡ at i) × (index_of c ≡ held i)
+index-of file stem cycle c = broken (read_plan file).outcome (read_plan file).plan stem cycle c (read-early file).0

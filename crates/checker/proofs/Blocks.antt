@@ -9,7 +9,7 @@ use lib.ListN.{length, drop}
 use Rattle.text.specs.Over.{Wrote}
 use Rattle.text.proofs.Overs.{left-start, left-next, left-last, wrote-front, wrote-both}
 use Rattle.answer.specs.Block.{little}
-use Rattle.checker.specs.Check.{number, line_of, index_of, worthOf}
+use Rattle.checker.specs.Check.{number, line_of, index_of, worth_of}
 use Rattle.checker.specs.Block.{flag, head_of, block_of}
 use Rattle.checker.specs.declared.Worth.{Worth}
 use Rattle.checker.specs.declared.Check.{Check}
@@ -34,7 +34,7 @@ head_done {b} n line w f room e d₁ d₂ d₃ d₄ d₅ d₆ d₇ =
     left-last l₆ d₇
 
 pub block-done : (c : Check) {b b₁ b₂ : List ℕ} (n line : ℕ) (w : Worth) (i : ℕ) → 24 ≤ length b
-    → n ≡ number c → line ≡ line_of c → w ≡ worthOf c → i ≡ index_of c
+    → n ≡ number c → line ≡ line_of c → w ≡ worth_of c → i ≡ index_of c
     → Wrote b 0 (head_of n line w) b₁ 16
     → Wrote b₁ 16 (little 8 i) b₂ 24
     → b₂ ≡ block_of c ++ drop 24 b

@@ -10,30 +10,30 @@ use native.Mathlib.Decide.{dec_lt}
 use native.Mathlib.Omega.{arith}
 use borrow.Author.Tests.{lt-ltb, eq-eqb}
 use lib.ListN.{length, get_or}
-use Rattle.automata.specs.Acceptance.{lassoAt}
+use Rattle.automata.specs.Acceptance.{lasso_at}
 use Rattle.base.specs.Least.{nowhere}
 use Rattle.plan.specs.Tour.{joins, IsLasso}
 use Rattle.plan.specs.WellFormed.{WellFormed}
 use Rattle.plan.specs.declared.Plan.{Plan}
 use Rattle.plan.proofs.Joins.{joins-to}
 use Rattle.base.proofs.Tests.{and_intro}
-use Rattle.checker.specs.Break.{drawn, firstBreak}
+use Rattle.checker.specs.Break.{drawn, first_break}
 use Rattle.checker.specs.Passing.{passes, Passed, closing, closes, Verdict, stops, ends, whole}
 use Rattle.checker.proofs.Drawn.{drawn-length, drawn-stem, drawn-loop, lasso-drawn, lasso-again}
 use Rattle.checker.proofs.Passing.{passes-first, passes-next, passes-known, passes-start, passes-road, closes-filled, closes-road}
 use Rattle.checker.proofs.Passing.{judged, verdict}
 
 module _ (p : Plan) (stem cycle : List ℕ) where
-  whole-passed : firstBreak p stem cycle ≡ nowhere → Passed p (drawn stem cycle) (length (drawn stem cycle)) × (closes p cycle ≡ true)
+  whole-passed : first_break p stem cycle ≡ nowhere → Passed p (drawn stem cycle) (length (drawn stem cycle)) × (closes p cycle ≡ true)
   whole-passed e = by (verdict p stem cycle)
     where
-      by : Verdict p (drawn stem cycle) (closes p cycle) (firstBreak p stem cycle)
+      by : Verdict p (drawn stem cycle) (closes p cycle) (first_break p stem cycle)
           → Passed p (drawn stem cycle) (length (drawn stem cycle)) × (closes p cycle ≡ true)
       by (stops i l before here f) = absurd (let z : ◌≡◌ {A = ℕ} 0 1 = cc in omega arith)
       by (ends before gap f) = absurd (let z : ◌≡◌ {A = ℕ} 0 1 = cc in omega arith)
       by (whole before closed f) = (before, closed)
 
-  pub whole-known : firstBreak p stem cycle ≡ nowhere
+  pub whole-known : first_break p stem cycle ≡ nowhere
       → ((i : ℕ) → i < length stem → get_or stem i 0 < p.places) × ((i : ℕ) → i < length cycle → get_or cycle i 0 < p.places)
   whole-known e = (
     λ i l. rw (sym (drawn-stem stem cycle i l)) (known i (omega (arith, drawn-length stem cycle))),
@@ -44,20 +44,20 @@ module _ (p : Plan) (stem cycle : List ℕ) where
       known i l = passes-known p (drawn stem cycle) i ((whole-passed e).0.each i l)
 
   -- the roads of the tour below its last step, and that one
-  road-inside : (k : ℕ) → suc k < length (drawn stem cycle) → joins p (lassoAt stem cycle k) (lassoAt stem cycle (suc k))
+  road-inside : (k : ℕ) → suc k < length (drawn stem cycle) → joins p (lasso_at stem cycle k) (lasso_at stem cycle (suc k))
       ≡ joins p (get_or (drawn stem cycle) (suc k - 1) 0) (get_or (drawn stem cycle) (suc k) 0)
   road-inside k h =
       let e : k ≡ suc k - 1 = omega arith in
       ap₂ (joins p) (lasso-drawn stem cycle k (omega arith) ∙ ap (λ i. get_or (drawn stem cycle) i 0) e) (lasso-drawn stem cycle (suc k) h)
 
   road-last : (t : ℕ) → suc t ≡ length (drawn stem cycle) → 0 < length cycle
-      → joins p (lassoAt stem cycle t) (lassoAt stem cycle (suc t)) ≡ closing p cycle
+      → joins p (lasso_at stem cycle t) (lasso_at stem cycle (suc t)) ≡ closing p cycle
   road-last t n h =
       ap₂ (joins p)
       (lasso-drawn stem cycle t (omega arith) ∙ drawn-loop stem cycle t (length cycle - 1) (omega (arith, drawn-length stem cycle)))
-      (ap (lassoAt stem cycle) n ∙ lasso-again stem cycle)
+      (ap (lasso_at stem cycle) n ∙ lasso-again stem cycle)
 
-  pub whole-lasso : firstBreak p stem cycle ≡ nowhere → IsLasso p stem cycle
+  pub whole-lasso : first_break p stem cycle ≡ nowhere → IsLasso p stem cycle
   whole-lasso e = record {
     filled = filled;
     begins = lasso-drawn stem cycle 0 some ∙ passes-start p (drawn stem cycle) (passed.each 0 some);
@@ -74,11 +74,11 @@ module _ (p : Plan) (stem cycle : List ℕ) where
       some = omega (arith, filled, drawn-length stem cycle)
 
       road : (t : ℕ) → t < length (drawn stem cycle) → Dec (suc t < length (drawn stem cycle))
-          → joins p (lassoAt stem cycle t) (lassoAt stem cycle (suc t)) ≡ true
+          → joins p (lasso_at stem cycle t) (lasso_at stem cycle (suc t)) ≡ true
       road t l (yes h) = road-inside t h ∙ passes-road p (drawn stem cycle) (suc t) (omega arith) (passed.each (suc t) h)
       road t l (no h) = road-last t (omega arith) filled ∙ sym (closes-road p cycle filled) ∙ (whole-passed e).1
 
-  pub lasso-whole : WellFormed p → IsLasso p stem cycle → firstBreak p stem cycle ≡ nowhere
+  pub lasso-whole : WellFormed p → IsLasso p stem cycle → first_break p stem cycle ≡ nowhere
   lasso-whole w l = judged p stem cycle (whole (record { each = passed }) closed refl)
     where
       passed : (k : ℕ) → k < length (drawn stem cycle) → passes p (drawn stem cycle) k ≡ true

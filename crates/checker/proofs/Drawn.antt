@@ -11,7 +11,7 @@ use native.Mathlib.Decide.{dec_lt}
 use native.Mathlib.Omega.{arith}
 use lib.ListN.{length, get_or, length-append, get_or-append}
 use lib.Seq.{get_or-append-add}
-use Rattle.automata.specs.Acceptance.{lassoAt}
+use Rattle.automata.specs.Acceptance.{lasso_at}
 use Rattle.automata.proofs.Lassos.{lasso-stem, lasso-cycle}
 use Rattle.checker.specs.Break.{drawn}
 
@@ -25,17 +25,17 @@ module _ (stem cycle : List ℕ) where
   pub drawn-loop : (t j : ℕ) → t ≡ length stem + j → get_or (drawn stem cycle) t 0 ≡ get_or cycle j 0
   drawn-loop t j e = ap (λ i. get_or (drawn stem cycle) i 0) e ∙ get_or-append-add stem cycle j 0
 
-  pub lasso-drawn : (t : ℕ) → t < length (drawn stem cycle) → lassoAt stem cycle t ≡ get_or (drawn stem cycle) t 0
+  pub lasso-drawn : (t : ℕ) → t < length (drawn stem cycle) → lasso_at stem cycle t ≡ get_or (drawn stem cycle) t 0
   lasso-drawn t h = by (dec_lt t (length stem))
     where
-      by : Dec (t < length stem) → lassoAt stem cycle t ≡ get_or (drawn stem cycle) t 0
+      by : Dec (t < length stem) → lasso_at stem cycle t ≡ get_or (drawn stem cycle) t 0
       by (yes l) = lasso-stem stem cycle t l ∙ sym (drawn-stem t l)
       by (no l) =
           lasso-cycle stem cycle t (omega arith)
           ∙ ap (λ i. get_or cycle i 0) (mod-eq_of_lt (omega (arith, drawn-length)))
           ∙ sym (drawn-loop t (t - length stem) (omega arith))
 
-  pub lasso-again : lassoAt stem cycle (length (drawn stem cycle)) ≡ get_or cycle 0 0
+  pub lasso-again : lasso_at stem cycle (length (drawn stem cycle)) ≡ get_or cycle 0 0
   lasso-again =
       let e : length (drawn stem cycle) - length stem ≡ length cycle = omega (arith, drawn-length) in
       lasso-cycle stem cycle (length (drawn stem cycle)) (omega (arith, drawn-length))

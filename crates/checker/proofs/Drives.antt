@@ -19,8 +19,8 @@ use Rattle.base.specs.Least.{nowhere, at}
 use Rattle.plan.specs.WellFormed.{WellFormed}
 use Rattle.plan.specs.declared.Plan.{Plan}
 use Rattle.base.proofs.Tests.{and_left}
-use Rattle.checker.specs.Break.{drawn, firstBreak}
-use Rattle.checker.specs.Drive.{before, allowed, priorOf, Stopped, Driving}
+use Rattle.checker.specs.Break.{drawn, first_break}
+use Rattle.checker.specs.Drive.{before, allowed, prior_of, Stopped, Driving}
 use Rattle.checker.specs.Passing.{passes, Passed, closing, closes, stops, ends, whole}
 use Rattle.checker.proofs.Drawn.{drawn-length, drawn-stem, drawn-loop}
 use Rattle.checker.proofs.Passing.{closes-road, judged}
@@ -36,7 +36,7 @@ module _ {ok : ℕ → ℕ → Bool} {from : ℕ} {s : List ℕ} {u i : ℕ} (d 
     driven = λ k b. by k b (ℕ_discrete k i);
   }
     where
-      by : (k : ℕ) → k < i + 1 → Dec (k ≡ i) → ok (priorOf from s k) (get_or s k 0) ≡ true
+      by : (k : ℕ) → k < i + 1 → Dec (k ≡ i) → ok (prior_of from s k) (get_or s k 0) ≡ true
       by k b (yes e) = rw (e, ← d.last) h
       by k b (no e) = d.driven k (omega arith)
 
@@ -56,25 +56,25 @@ stopped-same same d = record {
 
 -- the drive along run-in and loop as one list
 module _ (ok : ℕ → ℕ → Bool) (from : ℕ) (stem cycle : List ℕ) where
-  prior-stem : (k : ℕ) → k ≤ length stem → priorOf from (drawn stem cycle) k ≡ priorOf from stem k
+  prior-stem : (k : ℕ) → k ≤ length stem → prior_of from (drawn stem cycle) k ≡ prior_of from stem k
   prior-stem zero h = refl
   prior-stem (suc k) h = rw (ne_eqb (suc k) 0 (λ e. omega arith)) (drawn-stem stem cycle (suc k - 1) (omega arith))
 
-  prior-loop : (j : ℕ) → priorOf from (drawn stem cycle) (length stem + j) ≡ priorOf (priorOf from stem (length stem)) cycle j
+  prior-loop : (j : ℕ) → prior_of from (drawn stem cycle) (length stem + j) ≡ prior_of (prior_of from stem (length stem)) cycle j
   prior-loop zero =
       let e : length stem + 0 ≡ length stem = omega arith in
-      ap (priorOf from (drawn stem cycle)) e ∙ prior-stem (length stem) (omega arith)
+      ap (prior_of from (drawn stem cycle)) e ∙ prior-stem (length stem) (omega arith)
   prior-loop (suc j) =
       rw (ne_eqb (length stem + suc j) 0 (λ e. omega arith), ne_eqb (suc j) 0 (λ e. omega arith))
       (drawn-loop stem cycle (length stem + suc j - 1) (suc j - 1) (omega arith))
 
   step-stem : (k : ℕ) → k < length stem
-      → ok (priorOf from (drawn stem cycle) k) (get_or (drawn stem cycle) k 0) ≡ ok (priorOf from stem k) (get_or stem k 0)
+      → ok (prior_of from (drawn stem cycle) k) (get_or (drawn stem cycle) k 0) ≡ ok (prior_of from stem k) (get_or stem k 0)
   step-stem k h = ap₂ ok (prior-stem k (omega arith)) (drawn-stem stem cycle k h)
 
   step_loop : (t j : ℕ) → t ≡ length stem + j
-      → ok (priorOf from (drawn stem cycle) t) (get_or (drawn stem cycle) t 0) ≡ ok (priorOf (priorOf from stem (length stem)) cycle j) (get_or cycle j 0)
-  step_loop t j e = ap₂ ok (ap (priorOf from (drawn stem cycle)) e ∙ prior-loop j) (drawn-loop stem cycle t j e)
+      → ok (prior_of from (drawn stem cycle) t) (get_or (drawn stem cycle) t 0) ≡ ok (prior_of (prior_of from stem (length stem)) cycle j) (get_or cycle j 0)
+  step_loop t j e = ap₂ ok (ap (prior_of from (drawn stem cycle)) e ∙ prior-loop j) (drawn-loop stem cycle t j e)
 
   stopped-stem : (i : ℕ) → Stopped ok from stem i → i < length stem → Stopped ok from (drawn stem cycle) i
   stopped-stem i d h = record {
@@ -83,7 +83,7 @@ module _ (ok : ℕ → ℕ → Bool) (from : ℕ) (stem cycle : List ℕ) where
     stopped = λ l. step-stem i h ∙ d.stopped h;
   }
 
-  stopped-loop : (i j : ℕ) → Stopped ok from stem i → length stem ≤ i → Stopped ok (priorOf from stem (length stem)) cycle j
+  stopped-loop : (i j : ℕ) → Stopped ok from stem i → length stem ≤ i → Stopped ok (prior_of from stem (length stem)) cycle j
       → Stopped ok from (drawn stem cycle) (length stem + j)
   stopped-loop i j d h e = record {
     inside = omega (arith, drawn-length stem cycle);
@@ -91,7 +91,7 @@ module _ (ok : ℕ → ℕ → Bool) (from : ℕ) (stem cycle : List ℕ) where
     stopped = λ l. step_loop (length stem + j) j refl ∙ e.stopped (omega (arith, drawn-length stem cycle));
   }
     where
-      by : (k : ℕ) → k < length stem + j → Dec (k < length stem) → ok (priorOf from (drawn stem cycle) k) (get_or (drawn stem cycle) k 0) ≡ true
+      by : (k : ℕ) → k < length stem + j → Dec (k < length stem) → ok (prior_of from (drawn stem cycle) k) (get_or (drawn stem cycle) k 0) ≡ true
       by k l (yes b) = step-stem k b ∙ d.driven k (omega arith)
       by k l (no b) = step_loop k (k - length stem) (omega arith) ∙ e.driven (k - length stem) (omega arith)
 
@@ -102,7 +102,7 @@ module _ (p : Plan) (w : WellFormed p) where
   allowed-known u v h = ltb-true v p.places (and_left _ _ h)
 
   module _ (s : List ℕ) where
-    allowed-passes : (k : ℕ) → (0 < k → get_or s (k - 1) 0 < p.places) → allowed p (priorOf before s k) (get_or s k 0) ≡ passes p s k
+    allowed-passes : (k : ℕ) → (0 < k → get_or s (k - 1) 0 < p.places) → allowed p (prior_of before s k) (get_or s k 0) ≡ passes p s k
     unfolding allowed passes
     allowed-passes zero h = refl
     allowed-passes (suc k) h =
@@ -110,7 +110,7 @@ module _ (p : Plan) (w : WellFormed p) where
         rw (ne_eqb (suc k) 0 (λ e. omega arith), ne_eqb (get_or s (suc k - 1) 0) before (λ e. omega (arith, w.few)))
 
     module _ (i : ℕ) (d : Stopped (allowed p) before s i) where
-      step-passes : (k : ℕ) → k ≤ i → allowed p (priorOf before s k) (get_or s k 0) ≡ passes p s k
+      step-passes : (k : ℕ) → k ≤ i → allowed p (prior_of before s k) (get_or s k 0) ≡ passes p s k
       step-passes k l = allowed-passes k (λ b. allowed-known _ _ (d.driven (k - 1) (omega arith)))
 
       driven-passed : Passed p s i
@@ -120,26 +120,26 @@ module _ (p : Plan) (w : WellFormed p) where
       stopped-fails l = sym (step-passes i (omega arith)) ∙ d.stopped l
 
 module _ (p : Plan) (w : WellFormed p) (stem cycle : List ℕ) where
-  breaks-at : (i : ℕ) → Stopped (allowed p) before (drawn stem cycle) i → i < length (drawn stem cycle) → firstBreak p stem cycle ≡ at i
+  breaks-at : (i : ℕ) → Stopped (allowed p) before (drawn stem cycle) i → i < length (drawn stem cycle) → first_break p stem cycle ≡ at i
   breaks-at i d h = judged p stem cycle (stops i h (driven-passed p w (drawn stem cycle) i d) (stopped-fails p w (drawn stem cycle) i d h) refl)
 
-  pub break-in-stem : (i : ℕ) → Stopped (allowed p) before stem i → i < length stem → firstBreak p stem cycle ≡ at i
+  pub break-in-stem : (i : ℕ) → Stopped (allowed p) before stem i → i < length stem → first_break p stem cycle ≡ at i
   break-in-stem i d h = breaks-at i (stopped-stem (allowed p) before stem cycle i d h) (omega (arith, drawn-length stem cycle))
 
   module _ (i : ℕ) (d : Stopped (allowed p) before stem i) (all : length stem ≤ i) where
-    pub break-in-loop : (j : ℕ) → Stopped (allowed p) (priorOf before stem (length stem)) cycle j → j < length cycle
-        → firstBreak p stem cycle ≡ at (length stem + j)
+    pub break-in-loop : (j : ℕ) → Stopped (allowed p) (prior_of before stem (length stem)) cycle j → j < length cycle
+        → first_break p stem cycle ≡ at (length stem + j)
     break-in-loop j e h =
         breaks-at (length stem + j) (stopped-loop (allowed p) before stem cycle i j d all e) (omega (arith, drawn-length stem cycle))
 
     -- both are driven whole
-    all-passed : (j : ℕ) → Stopped (allowed p) (priorOf before stem (length stem)) cycle j → length cycle ≤ j
+    all-passed : (j : ℕ) → Stopped (allowed p) (prior_of before stem (length stem)) cycle j → length cycle ≤ j
         → Passed p (drawn stem cycle) (length (drawn stem cycle))
     all-passed j e h =
         let passed = driven-passed p w (drawn stem cycle) (length stem + j) (stopped-loop (allowed p) before stem cycle i j d all e) in
         record { each = λ k l. passed.each k (omega (arith, drawn-length stem cycle)) }
 
-    pub break-no-loop : length cycle ≡ 0 → firstBreak p stem cycle ≡ at (length stem)
+    pub break-no-loop : length cycle ≡ 0 → first_break p stem cycle ≡ at (length stem)
     unfolding closes
     break-no-loop h =
         judged p stem cycle
@@ -147,18 +147,18 @@ module _ (p : Plan) (w : WellFormed p) (stem cycle : List ℕ) where
         (rw (closes, le-ltb 0 (length cycle) (omega arith)))
         (ap at (omega (arith, drawn-length stem cycle))))
       where
-        empty : Stopped (allowed p) (priorOf before stem (length stem)) cycle 0
+        empty : Stopped (allowed p) (prior_of before stem (length stem)) cycle 0
         empty = record {
           inside = omega arith;
           driven = λ k l. absurd (let z : ⊥ = omega arith in z);
           stopped = λ l. absurd (let z : ⊥ = omega arith in z);
         }
 
-    module _ (j : ℕ) (e : Stopped (allowed p) (priorOf before stem (length stem)) cycle j) (turn : length cycle ≤ j)
+    module _ (j : ℕ) (e : Stopped (allowed p) (prior_of before stem (length stem)) cycle j) (turn : length cycle ≤ j)
         (filled : 0 < length cycle) where
       pub break-closing : closing p cycle ≡ false
-          → firstBreak p stem cycle ≡ at (length stem + length cycle)
+          → first_break p stem cycle ≡ at (length stem + length cycle)
       break-closing h = judged p stem cycle (ends (all-passed j e turn) (closes-road p cycle filled ∙ h) (ap at (sym (drawn-length stem cycle))))
 
-      pub break-none : closing p cycle ≡ true → firstBreak p stem cycle ≡ nowhere
+      pub break-none : closing p cycle ≡ true → first_break p stem cycle ≡ nowhere
       break-none h = judged p stem cycle (whole (all-passed j e turn) (closes-road p cycle filled ∙ h) refl)

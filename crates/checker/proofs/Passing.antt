@@ -19,7 +19,7 @@ use Rattle.plan.specs.Tour.{joins}
 use Rattle.plan.specs.declared.Plan.{Plan}
 use Rattle.base.proofs.Tests.{and_left, and_right}
 use Rattle.base.proofs.Least.{LeastAt, least-found, least-none, least_at, least-nowhere}
-use Rattle.checker.specs.Break.{breaks, drawn, loopless, firstBreak}
+use Rattle.checker.specs.Break.{breaks, drawn, loopless, first_break}
 use Rattle.checker.specs.Passing.{passes, Passed, closing, closes, Verdict, stops, ends, whole}
 use Rattle.checker.proofs.Drawn.{drawn-length}
 
@@ -109,7 +109,7 @@ module _ (p : Plan) (stem cycle : List ℕ) where
   unbroken-passed : (n : ℕ) → n < suc (length (drawn stem cycle)) → ((k : ℕ) → k < n → breaks p stem cycle k ≡ false) → Passed p (drawn stem cycle) n
   unbroken-passed n h none = record { each = λ k l. not-false _ (sym (breaks-inside k (omega arith)) ∙ none k l) }
 
-  pub judged : {f : Found} → Verdict p (drawn stem cycle) (closes p cycle) f → firstBreak p stem cycle ≡ f
+  pub judged : {f : Found} → Verdict p (drawn stem cycle) (closes p cycle) f → first_break p stem cycle ≡ f
   judged (stops i h before here e) =
       least_at (breaks p stem cycle) (suc (length (drawn stem cycle))) i
       (record { below = omega arith; holds = breaks-inside i h ∙ ap not here; first = λ k l. passed-unbroken i k (omega arith) before l })
@@ -127,10 +127,10 @@ module _ (p : Plan) (stem cycle : List ℕ) where
       by k l (yes h) = passed-unbroken (length (drawn stem cycle)) k (omega arith) before h
       by k l (no h) = let n : k ≡ length (drawn stem cycle) = omega arith in rw n (breaks-end ∙ ap not closed)
 
-  pub verdict : Verdict p (drawn stem cycle) (closes p cycle) (firstBreak p stem cycle)
-  verdict = by (firstBreak p stem cycle) refl
+  pub verdict : Verdict p (drawn stem cycle) (closes p cycle) (first_break p stem cycle)
+  verdict = by (first_break p stem cycle) refl
     where
-      by : (f : Found) → firstBreak p stem cycle ≡ f → Verdict p (drawn stem cycle) (closes p cycle) f
+      by : (f : Found) → first_break p stem cycle ≡ f → Verdict p (drawn stem cycle) (closes p cycle) f
       by nowhere e =
           let n = length (drawn stem cycle) in
           let none = least-none (breaks p stem cycle) (suc n) e in

@@ -16,7 +16,7 @@ use Rattle.base.specs.Least.{Found}
 use Rattle.plan.specs.Tour.{joins}
 use Rattle.plan.specs.declared.Plan.{Plan}
 use Rattle.base.proofs.Tests.{and_intro}
-use Rattle.checker.specs.Break.{drawn, firstBreak}
+use Rattle.checker.specs.Break.{drawn, first_break}
 use Rattle.checker.specs.Passing.{passes, Passed, closes, Verdict, stops, ends, whole}
 use Rattle.checker.proofs.Drawn.{drawn-length, drawn-stem, drawn-loop}
 use Rattle.checker.proofs.Passing.{and-false, passes-next, passes-known, closes-road, judged, verdict}
@@ -91,14 +91,14 @@ closes-doubled p cycle filled =
     ∙ ap₂ (joins p) (drawn-loop cycle cycle (length (cycle ++ cycle) - 1) (length cycle - 1) (omega (arith, two))) (drawn-stem cycle cycle 0 filled)
     ∙ sym (closes-road p cycle filled)
 
-pub break-turned : (p : Plan) (stem cycle : List ℕ) → firstBreak p (stem ++ cycle) cycle ≡ firstBreak p stem cycle
-break-turned p stem [] = ap (λ s. firstBreak p s []) (append-nil stem)
+pub break-turned : (p : Plan) (stem cycle : List ℕ) → first_break p (stem ++ cycle) cycle ≡ first_break p stem cycle
+break-turned p stem [] = ap (λ s. first_break p s []) (append-nil stem)
 break-turned p stem (c ∷ cs) = judged p (stem ++ (c ∷ cs)) (c ∷ cs) (turned p stem (c ∷ cs) (omega arith) (verdict p stem (c ∷ cs)))
 
-pub break-doubled : (p : Plan) (stem cycle : List ℕ) → firstBreak p stem (cycle ++ cycle) ≡ firstBreak p stem cycle
+pub break-doubled : (p : Plan) (stem cycle : List ℕ) → first_break p stem (cycle ++ cycle) ≡ first_break p stem cycle
 break-doubled p stem [] = refl
 break-doubled p stem (c ∷ cs) =
     let cycle : List ℕ = c ∷ cs in
     judged p stem (cycle ++ cycle)
-    (subst₂ (λ s d. Verdict p s d (firstBreak p stem cycle)) (append_assoc stem cycle cycle) (sym (closes-doubled p cycle (omega arith)))
+    (subst₂ (λ s d. Verdict p s d (first_break p stem cycle)) (append_assoc stem cycle cycle) (sym (closes-doubled p cycle (omega arith)))
     (turned p stem cycle (omega arith) (verdict p stem cycle)))

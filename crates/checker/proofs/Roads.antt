@@ -21,8 +21,8 @@ use Rattle.plan.specs.declared.Plan.{Plan}
 use Rattle.plan.proofs.Joins.{no_place}
 use Rattle.roadmap.specs.Chart.{charted}
 use Rattle.roadmap.proofs.Charts.{charted-length, charted-apart, charted-at}
-use Rattle.checker.specs.Drive.{before, allowed, onTable, Charted}
-use Rattle.checker.specs.Roads.{roadTable, Blank}
+use Rattle.checker.specs.Drive.{before, allowed, on_table, Charted}
+use Rattle.checker.specs.Roads.{road_table, Blank}
 
 is_one : (b : Bool) → eqb (cond b 1 0) 1 ≡ b
 is_one true = refl
@@ -52,21 +52,21 @@ module _ (p : Plan) (w : WellFormed p) (table : List ℕ) (blank : Blank table) 
           ap (λ x. eqb x 1) (charted-apart p 0 w table (u * 128 + v) (λ lo hi. omega arith) ∙ blank.zeros (u * 128 + v))
           ∙ sym (no_place p u v w (omega (arith, w.few)))
 
-  pub table-entry : (u v : ℕ) → v < 128 → eqb (get_or (roadTable p table) (u * 128 + v) 0) 1 ≡ cond (eqb u before) (eqb v p.start) (joins p u v)
+  pub table-entry : (u v : ℕ) → v < 128 → eqb (get_or (road_table p table) (u * 128 + v) 0) 1 ≡ cond (eqb u before) (eqb v p.start) (joins p u v)
   table-entry u v h = by (ℕ_discrete u before) (ℕ_discrete v p.start)
     where
-      elsewhere : (u * 128 + v ≡ before * 128 + p.start → ⊥) → eqb (get_or (roadTable p table) (u * 128 + v) 0) 1 ≡ joins p u v
+      elsewhere : (u * 128 + v ≡ before * 128 + p.start → ⊥) → eqb (get_or (road_table p table) (u * 128 + v) 0) 1 ≡ joins p u v
       elsewhere other =
           ap (λ x. eqb x 1)
           (get_or-set_other (charted p 0 table) (before * 128 + p.start) (u * 128 + v) 1 0 other)
           ∙ charted-joins u v h
 
       by : Dec (u ≡ before) → Dec (v ≡ p.start)
-          → eqb (get_or (roadTable p table) (u * 128 + v) 0) 1 ≡ cond (eqb u before) (eqb v p.start) (joins p u v)
+          → eqb (get_or (road_table p table) (u * 128 + v) 0) 1 ≡ cond (eqb u before) (eqb v p.start) (joins p u v)
       by (yes e) (yes k) =
           let here : u * 128 + v ≡ before * 128 + p.start = omega arith in
           ap (λ x. eqb x 1)
-          (ap (λ i. get_or (roadTable p table) i 0) here
+          (ap (λ i. get_or (road_table p table) i 0) here
           ∙ get_or-set_same (charted p 0 table) (before * 128 + p.start) 1 0
           (omega (arith, w.start, w.few, blank.room, charted-length p 0 table)))
           ∙ sym (rw (eq-eqb u before e) (eq-eqb v p.start k))
@@ -74,15 +74,15 @@ module _ (p : Plan) (w : WellFormed p) (table : List ℕ) (blank : Blank table) 
           elsewhere (λ z. k (omega arith)) ∙ no_place p u v w (omega (arith, w.few)) ∙ sym (rw (eq-eqb u before e) (ne_eqb v p.start k))
       by (no e) d = elsewhere (λ z. e (omega (arith, w.start, w.few))) ∙ sym (rw (ne_eqb u before e))
 
-  pub table-joins : (u v : ℕ) → u < 128 → v < 128 → eqb (get_or (roadTable p table) (u * 128 + v) 0) 1 ≡ joins p u v
+  pub table-joins : (u v : ℕ) → u < 128 → v < 128 → eqb (get_or (road_table p table) (u * 128 + v) 0) 1 ≡ joins p u v
   table-joins u v k h = table-entry u v h ∙ rw (ne_eqb u before (λ e. omega arith))
 
-  pub table-allowed : (u v : ℕ) → onTable (roadTable p table) p.places u v ≡ allowed p u v
+  pub table-allowed : (u v : ℕ) → on_table (road_table p table) p.places u v ≡ allowed p u v
   unfolding allowed
   table-allowed u v = by (dec_lt v p.places)
     where
       by : Dec (v < p.places)
-          → onTable (roadTable p table) p.places u v ≡ ltb v p.places && cond (eqb u before) (eqb v p.start) (joins p u v)
+          → on_table (road_table p table) p.places u v ≡ ltb v p.places && cond (eqb u before) (eqb v p.start) (joins p u v)
       by (yes h) = ap (λ b. ltb v p.places && b) (table-entry u v (omega (arith, w.few)))
       by (no h) = rw (le-ltb v p.places (omega arith))
 
@@ -91,7 +91,7 @@ pub filled-table : (p : Plan) (table filled : List ℕ) → WellFormed p → Bla
     → filled ≡ charted p 0 table → Charted p (set filled (before * 128 + p.start) 1)
 filled-table p table filled w blank long e = subst (λ (t : List ℕ). Charted p (set t (before * 128 + p.start) 1)) (sym e) whole
   where
-    whole : Charted p (roadTable p table)
+    whole : Charted p (road_table p table)
     whole = record {
       long = length-set (charted p 0 table) (before * 128 + p.start) 1 ∙ charted-length p 0 table ∙ long;
       allows = table-allowed p w table blank;

@@ -13,11 +13,11 @@ use Rattle.plan.specs.Size.{Sized}
 use Rattle.plan.specs.declared.Plan.{Plan}
 use Rattle.plan.specs.declared.Refusal.{Refusal}
 use Rattle.plan.specs.declared.Refusal.TheVariants.{ProductTooLarge, Broken}
-use Rattle.reader.specs.Reading.{readPlan}
+use Rattle.reader.specs.Reading.{read_plan}
 use Rattle.reader.specs.declared.Reading.{Reading}
 use Rattle.reader.specs.declared.Outcome.TheVariants as outcome
-use Rattle.checker.specs.Break.{firstBreak}
-use Rattle.checker.specs.Outcome.{held, breakOf}
+use Rattle.checker.specs.Break.{first_break}
+use Rattle.checker.specs.Outcome.{held, break_of}
 use Rattle.checker.specs.Check.{Worthy, Ruled, ruling, RuledOf, CheckOf}
 use Rattle.checker.specs.declared.Worth.{Worth}
 use Rattle.checker.specs.declared.Check.{Check}
@@ -25,21 +25,21 @@ use Rattle.checker.specs.declared.Check.TheVariants.{Refused, Tour}
 use Rattle.checker.specs.declared.scan.Break.{Break}
 use Rattle.checker.specs.declared.scan.Break.TheVariants as break
 
-indexIn : Break → ℕ
-indexIn break.Nowhere = 0
-indexIn (break.At i) = i
+index_in : Break → ℕ
+index_in break.Nowhere = 0
+index_in (break.At i) = i
 
 is_at : Break → Bool
 is_at break.Nowhere = false
 is_at (break.At i) = true
 
 -- a break that is told is that of the definition
-pub told-broken : (f : Found) (i : ℕ) → break.At i ≡ breakOf f → (k : ℕ) × (f ≡ at k) × (i ≡ held k)
-unfolding is_at indexIn
+pub told-broken : (f : Found) (i : ℕ) → break.At i ≡ break_of f → (k : ℕ) × (f ≡ at k) × (i ≡ held k)
+unfolding is_at index_in
 told-broken nowhere i e = absurd (false-not-true refl (ap is_at e))
-told-broken (at k) i e = (k, refl, ap indexIn e)
+told-broken (at k) i e = (k, refl, ap index_in e)
 
-pub told-whole : (f : Found) → break.Nowhere ≡ breakOf f → f ≡ nowhere
+pub told-whole : (f : Found) → break.Nowhere ≡ break_of f → f ≡ nowhere
 unfolding is_at
 told-whole nowhere e = refl
 told-whole (at k) e = absurd (false-not-true refl (sym (ap is_at e)))
@@ -49,15 +49,15 @@ module _ (p : Plan) {large : Bool} {n : ℕ} (s : Sized p large n) (stem cycle :
   unfolding Ruled ruling
   ruled-large e = rw (sym s.judged ∙ e) refl
 
-  pub ruled-broken : (i : ℕ) → large ≡ false → break.At i ≡ breakOf (firstBreak p stem cycle) → RuledOf outcome.Plan p stem cycle (Refused (Broken i))
+  pub ruled-broken : (i : ℕ) → large ≡ false → break.At i ≡ break_of (first_break p stem cycle) → RuledOf outcome.Plan p stem cycle (Refused (Broken i))
   unfolding Ruled ruling
-  ruled-broken i e b = let k = told-broken (firstBreak p stem cycle) i b in rw (sym s.judged ∙ e, k.1) (ap (λ i. Refused (Broken i)) k.2)
+  ruled-broken i e b = let k = told-broken (first_break p stem cycle) i b in rw (sym s.judged ∙ e, k.1) (ap (λ i. Refused (Broken i)) k.2)
 
-  pub ruled-whole : (w : Worth) → large ≡ false → break.Nowhere ≡ breakOf (firstBreak p stem cycle) → Worthy p stem cycle w → RuledOf outcome.Plan p stem cycle (Tour w)
+  pub ruled-whole : (w : Worth) → large ≡ false → break.Nowhere ≡ break_of (first_break p stem cycle) → Worthy p stem cycle w → RuledOf outcome.Plan p stem cycle (Tour w)
   unfolding Ruled ruling
-  ruled-whole w e b x = rw (sym s.judged ∙ e, told-whole (firstBreak p stem cycle) b) (record { worth = w; told = refl; worthy = x })
+  ruled-whole w e b x = rw (sym s.judged ∙ e, told-whole (first_break p stem cycle) b) (record { worth = w; told = refl; worthy = x })
 
-module _ (file : List ℕ) (r : Reading) (e : r ≡ readPlan file) (stem cycle : List ℕ) where
+module _ (file : List ℕ) (r : Reading) (e : r ≡ read_plan file) (stem cycle : List ℕ) where
   pub read-ruled : (c : Check) → r.outcome ≡ outcome.Plan → RuledOf outcome.Plan r.plan stem cycle c → CheckOf file stem cycle c
   read-ruled c o x = subst (λ (r : Reading). RuledOf r.outcome r.plan stem cycle c) e (subst (λ o. RuledOf o r.plan stem cycle c) (sym o) x)
 

@@ -17,24 +17,24 @@ use Rattle.automata.specs.WellFormed.{Below}
 use Rattle.base.specs.Least.{Found, nowhere, at}
 use Rattle.plan.specs.declared.Plan.{Plan}
 use Rattle.base.proofs.Tests.{and_intro, and_left}
-use Rattle.checker.specs.Drive.{allowed, onTable, priorOf, Stopped, Charted, unlinked}
-use Rattle.checker.specs.Outcome.{held, breakOf}
+use Rattle.checker.specs.Drive.{allowed, on_table, prior_of, Stopped, Charted, unlinked}
+use Rattle.checker.specs.Outcome.{held, break_of}
 use Rattle.checker.specs.Passing.{closing}
 use Rattle.checker.specs.declared.scan.Break.TheVariants.{Nowhere, At}
 use Rattle.checker.proofs.Drives.{stopped-same}
 
 module _ (roads : List ℕ) (places u v : ℕ) where
-  pub table-past : places ≤ v → onTable roads places u v ≡ false
+  pub table-past : places ≤ v → on_table roads places u v ≡ false
   table-past h = rw (le-ltb v places h)
 
-  pub table-shut : v < places → (get_or roads (u * 128 + v) 0 ≡ 1 → ⊥) → onTable roads places u v ≡ false
+  pub table-shut : v < places → (get_or roads (u * 128 + v) 0 ≡ 1 → ⊥) → on_table roads places u v ≡ false
   table-shut h shut = rw (lt-ltb v places h) (ne_eqb (get_or roads (u * 128 + v) 0) 1 shut)
 
-  pub table-leads : v < places → get_or roads (u * 128 + v) 0 ≡ 1 → onTable roads places u v ≡ true
+  pub table-leads : v < places → get_or roads (u * 128 + v) 0 ≡ 1 → on_table roads places u v ≡ true
   table-leads h leads = and_intro (lt-ltb v places h) (eq-eqb (get_or roads (u * 128 + v) 0) 1 leads)
 
 module _ (roads : List ℕ) (places : ℕ) (few : places ≤ 128) (from : ℕ) (s : List ℕ) (i : ℕ)
-    (d : Stopped (onTable roads places) from s i) (whole : length s ≤ i) where
+    (d : Stopped (on_table roads places) from s i) (whole : length s ≤ i) where
   pub whole_below : Below 128 s
   whole_below k = by (dec_lt k (length s))
     where
@@ -42,20 +42,20 @@ module _ (roads : List ℕ) (places : ℕ) (few : places ≤ 128) (from : ℕ) (
       by (yes h) = omega (arith, ltb-true (get_or s k 0) places (and_left _ _ (d.driven k (omega arith))))
       by (no h) = omega (arith, get_or-eq_default {A = ℕ} s 0 {n = k} (omega arith))
 
-  pub prior-small : from ≤ 128 → (k : ℕ) → priorOf from s k ≤ 128
+  pub prior-small : from ≤ 128 → (k : ℕ) → prior_of from s k ≤ 128
   prior-small h zero = h
   prior-small h (suc k) = rw (ne_eqb (suc k) 0 (λ e. omega arith)) (omega (arith, whole_below (suc k - 1)))
 
 module _ {p : Plan} {roads : List ℕ} (chart : Charted p roads) where
-  pub charted-stopped : {from : ℕ} {s : List ℕ} {i : ℕ} → Stopped (onTable roads p.places) from s i → Stopped (allowed p) from s i
+  pub charted-stopped : {from : ℕ} {s : List ℕ} {i : ℕ} → Stopped (on_table roads p.places) from s i → Stopped (allowed p) from s i
   charted-stopped d = stopped-same chart.allows d
 
   pub charted-closing : (cycle : List ℕ) → Below 128 cycle → unlinked roads cycle ≡ not (closing p cycle)
   charted-closing cycle h = ap not (chart.linked (get_or cycle (length cycle - 1) 0) (get_or cycle 0 0) (h _) (h 0))
 
 module _ {f : Found} where
-  pub told_at : (i k : ℕ) → f ≡ at i → k ≡ held i → At k ≡ breakOf f
-  told_at i k e h = ap At h ∙ ap breakOf (sym e)
+  pub told_at : (i k : ℕ) → f ≡ at i → k ≡ held i → At k ≡ break_of f
+  told_at i k e h = ap At h ∙ ap break_of (sym e)
 
-  pub told-nowhere : f ≡ nowhere → Nowhere ≡ breakOf f
-  told-nowhere e = ap breakOf (sym e)
+  pub told-nowhere : f ≡ nowhere → Nowhere ≡ break_of f
+  told-nowhere e = ap break_of (sym e)

@@ -16,11 +16,11 @@ use borrow.Author.Tests.{eq-eqb}
 use lib.ListN.{length, get_or, get_or-eq_default}
 use lib.Dec.{eqb}
 use Rattle.base.specs.Least.{nowhere}
-use Rattle.base.specs.Bits.{bit, hasBit}
+use Rattle.base.specs.Bits.{bit, has_bit}
 use Rattle.base.proofs.Tests.{false-not-true}
 use Rattle.base.proofs.Bits.{bit_high, bit-add-same, bit-add-other, bit-add-lt}
 use Rattle.automata.specs.WellFormed as automaton
-use Rattle.automata.specs.WellFormed.{pastEnd}
+use Rattle.automata.specs.WellFormed.{past_end}
 use Rattle.automata.specs.declared.Automaton.{Automaton}
 use Rattle.acceptance.specs.Rule.{Usable, Judged}
 use Rattle.plan.specs.WellFormed.{soft, WellFormed}
@@ -28,7 +28,7 @@ use Rattle.plan.specs.Tour.{Soft}
 use Rattle.plan.specs.Cost.{keeps, KeptIs}
 use Rattle.plan.specs.declared.Plan.{Plan}
 use Rattle.plan.proofs.Rules.{rule-read}
-use Rattle.checker.specs.Break.{firstBreak}
+use Rattle.checker.specs.Break.{first_break}
 use Rattle.checker.specs.Worth.{Known, KeptBit, kept, left, Keeping}
 use Rattle.checker.proofs.Breaks.{whole-known}
 
@@ -39,18 +39,18 @@ module _ (p : Plan) (w : WellFormed p) where
   pub usable-hard : Usable p.hard
   usable-hard = usable (omega arith) w.hard
 
-  pub usable-soft : (i : ℕ) → i < p.rules → Usable (get_or p.soft i pastEnd)
+  pub usable-soft : (i : ℕ) → i < p.rules → Usable (get_or p.soft i past_end)
   usable-soft i l = rw (rule-read p w i l) (usable (omega arith) (w.softs i l))
 
   module _ (stem cycle : List ℕ) where
-    pub whole-places : firstBreak p stem cycle ≡ nowhere → Known p stem cycle
+    pub whole-places : first_break p stem cycle ≡ nowhere → Known p stem cycle
     whole-places e = let k = whole-known p stem cycle e in record { in-stem = λ i. at stem k.0 i (dec_lt i (length stem)); in-cycle = λ i. at cycle k.1 i (dec_lt i (length cycle)) }
       where
         at : (s : List ℕ) → ((i : ℕ) → i < length s → get_or s i 0 < p.places) → (i : ℕ) → Dec (i < length s) → get_or s i 0 < p.places
         at s k i (yes l) = k i l
         at s k i (no l) = let z : get_or s i 0 ≡ 0 = get_or-eq_default s 0 (omega arith) in omega (arith, z, w.some)
 
-    module _ (i weight : ℕ) (l : i < p.rules) (b : Bool) (j : Judged (get_or p.soft i pastEnd) p.labels stem cycle b) where
+    module _ (i weight : ℕ) (l : i < p.rules) (b : Bool) (j : Judged (get_or p.soft i past_end) p.labels stem cycle b) where
       own : Judged (soft p i) p.labels stem cycle b
       own = subst (λ (a : Automaton). Judged a p.labels stem cycle b) (rule-read p w i l) j
 
@@ -87,14 +87,14 @@ module _ (p : Plan) (stem cycle : List ℕ) where
         sum = omega (arith, e, x.next)
 
         others : (j : ℕ) → (j ≡ i → ⊥) → keeps (k + r) j ≡ keeps k j
-        others j n = ap (λ m. hasBit m j) sum ∙ ap (λ b. eqb b 1) (bit-add-other i j k clear n)
+        others j n = ap (λ m. has_bit m j) sum ∙ ap (λ b. eqb b 1) (bit-add-other i j k clear n)
 
         at : (j : ℕ) → j < i + 1 → keeps (k + r) j ≡ true → Dec (j ≡ i) → Soft p stem cycle j
         at j h b (yes f) = rw f s
         at j h b (no f) = x.accepted j (omega arith) (sym (others j f) ∙ b)
 
         off : (j : ℕ) → j < i + 1 → keeps (k + r) j ≡ false → Soft p stem cycle j → Dec (j ≡ i) → ⊥
-        off j h b t (yes f) = false-not-true (ap (hasBit (k + r)) f ∙ ap (λ m. hasBit m i) sum ∙ eq-eqb _ _ (bit-add-same i k clear)) b
+        off j h b t (yes f) = false-not-true (ap (has_bit (k + r)) f ∙ ap (λ m. has_bit m i) sum ∙ eq-eqb _ _ (bit-add-same i k clear)) b
         off j h b t (no f) = x.refused j (omega arith) (sym (others j f) ∙ b) t
     keeping-next r (left e n) = record {
       listed = omega arith;
@@ -108,12 +108,12 @@ module _ (p : Plan) (stem cycle : List ℕ) where
         same = omega (arith, e)
 
         at : (j : ℕ) → j < i + 1 → keeps (k + r) j ≡ true → Dec (j ≡ i) → Soft p stem cycle j
-        at j h b (yes f) = absurd (false-not-true b (ap (hasBit (k + r)) f ∙ ap (λ m. hasBit m i) same ∙ ap (λ b. eqb b 1) clear))
-        at j h b (no f) = x.accepted j (omega arith) (sym (ap (λ m. hasBit m j) same) ∙ b)
+        at j h b (yes f) = absurd (false-not-true b (ap (has_bit (k + r)) f ∙ ap (λ m. has_bit m i) same ∙ ap (λ b. eqb b 1) clear))
+        at j h b (no f) = x.accepted j (omega arith) (sym (ap (λ m. has_bit m j) same) ∙ b)
 
         off : (j : ℕ) → j < i + 1 → keeps (k + r) j ≡ false → Soft p stem cycle j → Dec (j ≡ i) → ⊥
         off j h b t (yes f) = n (subst (λ j. Soft p stem cycle j) f t)
-        off j h b t (no f) = x.refused j (omega arith) (sym (ap (λ m. hasBit m j) same) ∙ b) t
+        off j h b t (no f) = x.refused j (omega arith) (sym (ap (λ m. has_bit m j) same) ∙ b) t
 
   pub keeping-end : (i weight k : ℕ) → i ≡ p.rules → Keeping p stem cycle i weight k → KeptIs p stem cycle k
   keeping-end i weight k e x = record {

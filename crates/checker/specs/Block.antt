@@ -4,7 +4,7 @@
 --   block_of c      == its twenty-four bytes
 use Rattle.std.specs.Prelude.{Bool, cond, List, ◌∷◌, ◌++◌, ℕ}
 use Rattle.answer.specs.Block.{little}
-use Rattle.checker.specs.Check.{number, line_of, index_of, worthOf}
+use Rattle.checker.specs.Check.{number, line_of, index_of, worth_of}
 use Rattle.checker.specs.declared.Worth.{Worth}
 use Rattle.checker.specs.declared.Check.{Check}
 
@@ -18,4 +18,4 @@ head_of n line w =
 
 -- 16..23 index
 unfoldable pub block_of : Check → List ℕ
-block_of c = head_of (number c) (line_of c) (worthOf c) ++ little 8 (index_of c)
+block_of c = head_of (number c) (line_of c) (worth_of c) ++ little 8 (index_of c)

@@ -7,9 +7,9 @@
 --   unclosed p stem cycle i  == i is the total length, and the loop's last place is not joined to its first
 --   loopless stem cycle i    == i is the run-in's length, and the loop is empty
 --   breaks p stem cycle i    == one of these five
---   firstBreak p stem cycle  == the least index that breaks the tour, if any does
+--   first_break p stem cycle  == the least index that breaks the tour, if any does
 use Rattle.std.specs.Prelude.{Bool, not, ◌&&◌, ◌||◌, List, ◌++◌, ℕ, suc, ◌-◌, length, get_or, eqb, leb, ltb}
-use Rattle.base.specs.Least.{Found, leastBelow}
+use Rattle.base.specs.Least.{Found, least_below}
 use Rattle.plan.specs.Tour.{joins}
 use Rattle.plan.specs.declared.Plan.{Plan}
 
@@ -37,5 +37,5 @@ breaks p stem cycle i =
     let s = drawn stem cycle in
     unknown p s i || (misplaced p s i || (roadless p s i || (unclosed p stem cycle i || loopless stem cycle i)))
 
-abbrev pub firstBreak : Plan → List ℕ → List ℕ → Found
-firstBreak p stem cycle = leastBelow (suc (length (drawn stem cycle))) (breaks p stem cycle)
+abbrev pub first_break : Plan → List ℕ → List ℕ → Found
+first_break p stem cycle = least_below (suc (length (drawn stem cycle))) (breaks p stem cycle)

@@ -6,20 +6,20 @@
 --   Ruled r stem cycle c  == the answer c is that of the ruling
 --   CheckOf file stem cycle c == c is the answer to a plan file and a tour
 --   number, line_of, index_of c == the number of the refusal, its line and its index; all 0 for a tour
---   noWorth, worthOf c    == what the tour is worth; on a refusal all of it is 0
+--   no_worth, worth_of c    == what the tour is worth; on a refusal all of it is 0
 use Rattle.std.specs.Prelude.{◌≡◌, true, false, cond, List, ℕ}
 use Rattle.base.specs.Least.{Found, nowhere, at}
 use Rattle.plan.specs.Refusal as refusal
-use Rattle.plan.specs.Size.{tooLarge}
+use Rattle.plan.specs.Size.{too_large}
 use Rattle.plan.specs.Tour.{Hard}
 use Rattle.plan.specs.Cost.{KeptIs, cost}
 use Rattle.plan.specs.declared.Plan.{Plan}
 use Rattle.plan.specs.declared.Refusal.{Refusal}
 use Rattle.plan.specs.declared.Refusal.TheVariants.{ProductTooLarge, Broken}
-use Rattle.reader.specs.Reading.{readPlan}
+use Rattle.reader.specs.Reading.{read_plan}
 use Rattle.reader.specs.declared.Outcome.{Outcome}
 use Rattle.reader.specs.declared.Outcome.TheVariants as outcome
-use Rattle.checker.specs.Break.{firstBreak}
+use Rattle.checker.specs.Break.{first_break}
 use Rattle.checker.specs.Outcome.{held}
 use Rattle.checker.specs.declared.Worth.{Worth}
 use Rattle.checker.specs.declared.Check.{Check}
@@ -29,13 +29,13 @@ pub data Ruling : Type 0 where
   refuse : Refusal → Ruling
   judge : Plan → Ruling
 
-abbrev pub byBreak : Plan → Found → Ruling
-byBreak p nowhere = judge p
-byBreak p (at i) = refuse (Broken (held i))
+abbrev pub by_break : Plan → Found → Ruling
+by_break p nowhere = judge p
+by_break p (at i) = refuse (Broken (held i))
 
 unfoldable pub ruling : Outcome → Plan → List ℕ → List ℕ → Ruling
 ruling (outcome.Refused x) p stem cycle = refuse x
-ruling outcome.Plan p stem cycle = cond (tooLarge p) (refuse ProductTooLarge) (byBreak p (firstBreak p stem cycle))
+ruling outcome.Plan p stem cycle = cond (too_large p) (refuse ProductTooLarge) (by_break p (first_break p stem cycle))
 
 pub record Worthy (p : Plan) (stem cycle : List ℕ) (w : Worth) : Type 0 where
   pub accepted : w.accepts ≡ true → Hard p stem cycle
@@ -56,7 +56,7 @@ abbrev pub RuledOf : Outcome → Plan → List ℕ → List ℕ → Check → Ty
 RuledOf o p stem cycle c = Ruled (ruling o p stem cycle) stem cycle c
 
 abbrev pub CheckOf : List ℕ → List ℕ → List ℕ → Check → Type 0
-CheckOf file stem cycle c = RuledOf (readPlan file).outcome (readPlan file).plan stem cycle c
+CheckOf file stem cycle c = RuledOf (read_plan file).outcome (read_plan file).plan stem cycle c
 
 abbrev pub number : Check → ℕ
 number (Refused x) = refusal.number x
@@ -70,9 +70,9 @@ abbrev pub index_of : Check → ℕ
 index_of (Refused x) = refusal.index_of x
 index_of (Tour w) = 0
 
-abbrev pub noWorth : Worth
-noWorth = record { accepts = false; kept = 0; cost = 0 }
+abbrev pub no_worth : Worth
+no_worth = record { accepts = false; kept = 0; cost = 0 }
 
-abbrev pub worthOf : Check → Worth
-worthOf (Refused x) = noWorth
-worthOf (Tour w) = w
+abbrev pub worth_of : Check → Worth
+worth_of (Refused x) = no_worth
+worth_of (Tour w) = w

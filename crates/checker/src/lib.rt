@@ -1,11 +1,11 @@
 //! Tours drawn by hand: whether a proposed tour is one of the plan, whether the hard rule accepts it, what it keeps and what it costs.
 ghost use Rattle.std.specs.Prelude.{◌≡◌, ◌++◌, ◌≤◌, ◌<◌, length, drop};
 ghost use Rattle.text.specs.Over.{Wrote};
-ghost use Rattle.checker.specs.Block.{flag as flagOf, head_of, block_of};
+ghost use Rattle.checker.specs.Block.{flag as flag_of, head_of, block_of};
 ghost use Rattle.plan.specs.Cost.{KeptIs};
 ghost use Rattle.plan.specs.WellFormed.{WellFormed};
 ghost use Rattle.reader.specs.declared.Outcome.TheVariants as Outcome;
-ghost use Rattle.checker.specs.Check.{number, line_of, index_of, worthOf, Worthy, RuledOf, CheckOf};
+ghost use Rattle.checker.specs.Check.{number, line_of, index_of, worth_of, Worthy, RuledOf, CheckOf};
 ghost use Rattle.checker.specs.Worth.{Known, KeptBit};
 
 use acceptance::accepts;
@@ -64,7 +64,7 @@ pub fn check_index(check: Check) -> u64
 
 // What the tour is worth; all of it is 0 on a refusal.
 pub fn worth_of(check: Check) -> Worth
-    ensures { result ≡ worthOf check }
+    ensures { result ≡ worth_of check }
 {
     match check {
         Check::Refused(_) => Worth {
@@ -78,7 +78,7 @@ pub fn worth_of(check: Check) -> Worth
 
 // 1 for true.
 pub fn flag(b: bool) -> u32
-    ensures { result ≡ flagOf b }
+    ensures { result ≡ flag_of b }
 {
     if b {
         return 1;

@@ -2,10 +2,10 @@
 ghost use Rattle.std.specs.Prelude.{◌≡◌, ◌+◌, ◌≤◌, ◌<◌, min, length};
 ghost use Rattle.automata.specs.WellFormed.{Below};
 ghost use Rattle.plan.specs.WellFormed.{WellFormed};
-ghost use Rattle.checker.specs.Break.{firstBreak};
-ghost use Rattle.checker.specs.Drive.{before, onTable, priorOf, Stopped, Charted, unlinked};
+ghost use Rattle.checker.specs.Break.{first_break};
+ghost use Rattle.checker.specs.Drive.{before, on_table, prior_of, Stopped, Charted, unlinked};
 ghost use Rattle.checker.specs.Roads.{Blank};
-ghost use Rattle.checker.specs.Outcome.{breakOf};
+ghost use Rattle.checker.specs.Outcome.{break_of};
 
 use plan::Plan;
 
@@ -31,7 +31,7 @@ fn chart(p: Plan, roads: &mut [u8])
 // How many places of a list can be driven in turn, from place `from`.
 fn driven(roads: &[u8], places: usize, from: usize, list: &[u8]) -> usize
     requires { (length roads.now ≡ 16512) × (places ≤ 128) × (from ≤ 128) }
-    ensures { Stopped (onTable roads.now places) from list.now result }
+    ensures { Stopped (on_table roads.now places) from list.now result }
 {
     let mut u = from;
     let mut i = 0;
@@ -61,7 +61,7 @@ fn held_sum(a: usize, b: usize) -> u64
 
 // The place from which the loop is entered.
 fn before_loop(stem: &[u8]) -> usize
-    ensures { result ≡ priorOf before stem.now (length stem.now) }
+    ensures { result ≡ prior_of before stem.now (length stem.now) }
 {
     let n = stem.len();
     if n == 0 {
@@ -83,7 +83,7 @@ fn is_open(roads: &[u8], cycle: &[u8]) -> bool
 // The first break, by way of the table. The plan is not looked at: the contract speaks of it.
 fn break_in(p: Plan, roads: &[u8], stem: &[u8], cycle: &[u8]) -> Break
     requires { WellFormed p × Charted p roads.now }
-    ensures { result ≡ breakOf (firstBreak p stem.now cycle.now) }
+    ensures { result ≡ break_of (first_break p stem.now cycle.now) }
 {
     let places = p.places as usize;
     let r = stem.len();
@@ -108,7 +108,7 @@ fn break_in(p: Plan, roads: &[u8], stem: &[u8], cycle: &[u8]) -> Break
 // The first break, with a table in which nothing stands.
 fn break_on(p: Plan, roads: &mut [u8], stem: &[u8], cycle: &[u8]) -> Break
     requires { WellFormed p × Blank roads.old × (length roads.old ≡ 16512) }
-    ensures { result ≡ breakOf (firstBreak p stem.now cycle.now) }
+    ensures { result ≡ break_of (first_break p stem.now cycle.now) }
 {
     chart(p, roads);
     break_in(p, roads, stem, cycle)
@@ -117,7 +117,7 @@ fn break_on(p: Plan, roads: &mut [u8], stem: &[u8], cycle: &[u8]) -> Break
 // The first break of a proposed tour of a plan.
 pub fn first_break(p: Plan, stem: &[u8], cycle: &[u8]) -> Break
     requires { WellFormed p }
-    ensures { result ≡ breakOf (firstBreak p stem.now cycle.now) }
+    ensures { result ≡ break_of (first_break p stem.now cycle.now) }
 {
     let mut roads = [0u8; 16512];
     break_on(p, &mut roads, stem, cycle)

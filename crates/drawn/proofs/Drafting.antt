@@ -20,7 +20,7 @@ use lib.Dec.{leb, ltb}
 use lib.ListN.{length, drop}
 use Rattle.base.proofs.Tests.{and_left, and_right}
 use Rattle.text.specs.Line.{pair, good}
-use Rattle.text.specs.List.{listLine, places_of}
+use Rattle.text.specs.List.{list_line, places_of}
 use Rattle.text.specs.Runs.{Stands}
 use Rattle.text.specs.declared.fault.Fault.{Fault}
 use Rattle.text.specs.declared.line.Numbers.{Numbers}
@@ -29,8 +29,8 @@ use Rattle.text.specs.declared.line.Line.{Line}
 use Rattle.text.specs.declared.line.Line.TheVariants as line
 use Rattle.text.specs.declared.list.ListLine.{ListLine}
 use Rattle.text.proofs.StoodLines.{follows-good, list-follows}
-use Rattle.answer.specs.Text.{runinKey, loopKey}
-use Rattle.drawn.specs.Drawing.{runinAt, draftAt, draftOf, lengthsOf, roomy, fitting, judge, drawnOf, readTour, runinOf, loop_of, written}
+use Rattle.answer.specs.Text.{runin_key, loop_key}
+use Rattle.drawn.specs.Drawing.{runin_at, draft_at, draft_of, lengths_of, roomy, fitting, judge, drawn_of, read_tour, runin_of, loop_of, written}
 use Rattle.drawn.specs.declared.Lengths.{Lengths}
 use Rattle.drawn.specs.declared.Draft.{Draft}
 use Rattle.drawn.specs.declared.Lack.{Lack}
@@ -39,9 +39,9 @@ use Rattle.drawn.specs.declared.Drawn.{Drawn}
 use Rattle.drawn.specs.declared.Drawn.TheVariants.{Tour, Nothing}
 
 pub draft-made : (s : List ℕ) (at : ℕ) (xs : Numbers) (stem cycle : ListLine) → xs ≡ pair 0 0
-    → stem ≡ listLine s (line.Numbers xs (record { at = at })) runinKey 256 → cycle ≡ listLine s stem.line loopKey 256
-    → ◌≡◌ {A = Draft} (record { line = cycle.line; stem = stem.list; cycle = cycle.list }) (draftAt s at)
-unfolding draftAt
+    → stem ≡ list_line s (line.Numbers xs (record { at = at })) runin_key 256 → cycle ≡ list_line s stem.line loop_key 256
+    → ◌≡◌ {A = Draft} (record { line = cycle.line; stem = stem.list; cycle = cycle.list }) (draft_at s at)
+unfolding draft_at
 draft-made s at xs stem cycle e0 e1 e2 = rw (e2, e1, e0)
 
 pub fitting-by : (x : Lengths) (r l : ℕ) (room : Bool) → room ≡ roomy x r l → (q : Drawn) → q ≡ cond room (Tour x) (Nothing Long) → q ≡ fitting x r l
@@ -49,10 +49,10 @@ unfolding fitting
 fitting-by x r l room e q g = g ∙ rw e
 
 module _ (found : Bool) (last : Line) (x : Lengths) (r l : ℕ) (h : found ≡ true) where
-  pub drawn-faulty : (f : Fault) → last ≡ line.Fault f → Nothing (Faulty f) ≡ drawnOf found last x r l
+  pub drawn-faulty : (f : Fault) → last ≡ line.Fault f → Nothing (Faulty f) ≡ drawn_of found last x r l
   drawn-faulty f e = rw (h, e)
 
-  pub drawn-good : (xs : Numbers) (c : Cursor) → last ≡ line.Numbers xs c → fitting x r l ≡ drawnOf found last x r l
+  pub drawn-good : (xs : Numbers) (c : Cursor) → last ≡ line.Numbers xs c → fitting x r l ≡ drawn_of found last x r l
   drawn-good xs c e = rw (h, e)
 
 record Accepted (last : Line) (x : Lengths) (r l : ℕ) (y : Lengths) : Type 0 where
@@ -75,43 +75,43 @@ judge-tour (line.Numbers xs c) x r l y e = by (roomy x r l) refl e
     }
     by false p h = let z : ◌≡◌ {A = ℕ} 0 1 = cc in absurd (omega arith)
 
-drawn-tour : (found : Bool) (last : Line) (x : Lengths) (r l : ℕ) (y : Lengths) → drawnOf found last x r l ≡ Tour y → Accepted last x r l y
+drawn-tour : (found : Bool) (last : Line) (x : Lengths) (r l : ℕ) (y : Lengths) → drawn_of found last x r l ≡ Tour y → Accepted last x r l y
 drawn-tour true last x r l y e = judge-tour last x r l y e
 drawn-tour false last x r l y e = let z : ◌≡◌ {A = ℕ} 0 1 = cc in absurd (omega arith)
 
-pub tour-fits : (s : List ℕ) (r l : ℕ) (y : Lengths) (q : Drawn) → q ≡ readTour s r l → q ≡ Tour y → (y.stem ≤ r) × (y.cycle ≤ l)
-unfolding readTour
+pub tour-fits : (s : List ℕ) (r l : ℕ) (y : Lengths) (q : Drawn) → q ≡ read_tour s r l → q ≡ Tour y → (y.stem ≤ r) × (y.cycle ≤ l)
+unfolding read_tour
 tour-fits s r l y q e f =
-    let a = drawn-tour (ltb (runinAt s) (length s)) (draftOf s).line (lengthsOf (draftOf s)) r l y (sym e ∙ f) in
+    let a = drawn-tour (ltb (runin_at s) (length s)) (draft_of s).line (lengths_of (draft_of s)) r l y (sym e ∙ f) in
     rw a.same (a.stem, a.cycle)
 
 module _ (s : List ℕ) (at : ℕ) where
   abbrev first : ListLine
-  first = listLine s (line.Numbers (pair 0 0) (record { at = at })) runinKey 256
+  first = list_line s (line.Numbers (pair 0 0) (record { at = at })) runin_key 256
 
-  module _ (g : good (draftAt s at).line ≡ true) where
-    cycle-there : Stands s (draftAt s at).cycle
-    unfolding draftAt
-    cycle-there = let second = list-follows s loopKey 256 first.line in record { whole = second.whole g; bytes = second.fits g }
+  module _ (g : good (draft_at s at).line ≡ true) where
+    cycle-there : Stands s (draft_at s at).cycle
+    unfolding draft_at
+    cycle-there = let second = list-follows s loop_key 256 first.line in record { whole = second.whole g; bytes = second.fits g }
 
-    stem-there : Stands s (draftAt s at).stem
-    unfolding draftAt
+    stem-there : Stands s (draft_at s at).stem
+    unfolding draft_at
     stem-there =
-        let one = list-follows s runinKey 256 (line.Numbers (pair 0 0) (record { at = at })) in
-        let h = (follows-good (list-follows s loopKey 256 first.line).follows g).0 in
+        let one = list-follows s runin_key 256 (line.Numbers (pair 0 0) (record { at = at })) in
+        let h = (follows-good (list-follows s loop_key 256 first.line).follows g).0 in
         record { whole = one.whole h; bytes = one.fits h }
 
-module _ (s : List ℕ) (r l at : ℕ) (begun : at ≡ runinAt s) (d : Draft) (same : d ≡ draftAt s at) where
-  module _ (q : Drawn) (k : q ≡ drawnOf (ltb at (length s)) d.line (lengthsOf d) r l) where
-    pub drawn : q ≡ readTour s r l
-    unfolding readTour
+module _ (s : List ℕ) (r l at : ℕ) (begun : at ≡ runin_at s) (d : Draft) (same : d ≡ draft_at s at) where
+  module _ (q : Drawn) (k : q ≡ drawn_of (ltb at (length s)) d.line (lengths_of d) r l) where
+    pub drawn : q ≡ read_tour s r l
+    unfolding read_tour
     drawn = rw (k, same, begun)
 
     module _ (y : Lengths) (e : q ≡ Tour y) where
-      held : Accepted d.line (lengthsOf d) r l y
-      held = drawn-tour (ltb at (length s)) d.line (lengthsOf d) r l y (sym k ∙ e)
+      held : Accepted d.line (lengths_of d) r l y
+      held = drawn-tour (ltb at (length s)) d.line (lengths_of d) r l y (sym k ∙ e)
 
-      faultless : good (draftAt s at).line ≡ true
+      faultless : good (draft_at s at).line ≡ true
       faultless = rw (← same) held.faultless
 
       pub stem-stands : Stands s d.stem × (d.stem.count ≤ r)
@@ -120,7 +120,7 @@ module _ (s : List ℕ) (r l at : ℕ) (begun : at ≡ runinAt s) (d : Draft) (s
       pub cycle-stands : Stands s d.cycle × (d.cycle.count ≤ l)
       cycle-stands = (rw same (cycle-there s at faultless), held.cycle)
 
-      pub runin-written : (before after : List ℕ) → after ≡ places_of s d.stem ++ drop d.stem.count before → after ≡ written q (runinOf s) before
+      pub runin-written : (before after : List ℕ) → after ≡ places_of s d.stem ++ drop d.stem.count before → after ≡ written q (runin_of s) before
       runin-written before after w = w ∙ rw (e, ← begun, ← same, stem-stands.0.whole)
 
       pub loop-written : (before after : List ℕ) → after ≡ places_of s d.cycle ++ drop d.cycle.count before → after ≡ written q (loop_of s) before

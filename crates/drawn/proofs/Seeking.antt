@@ -15,7 +15,7 @@ use lib.Seq.{drop-cons}
 use Rattle.text.specs.Scan.{starts_with, pick, key_at}
 use Rattle.text.specs.declared.read.Number.{Number}
 use Rattle.text.specs.declared.read.Number.TheVariants.{Value, Bad}
-use Rattle.drawn.specs.Drawing.{lineWith}
+use Rattle.drawn.specs.Drawing.{line_with}
 
 module _ (s : List ℕ) (at : ℕ) (key : List ℕ) (k : Number) (is : k ≡ key_at s at key) where
   pub key-found : (v i : ℕ) → k ≡ Value v i → starts_with key (drop at s) ≡ true
@@ -35,19 +35,19 @@ module _ (s : List ℕ) (at : ℕ) (key : List ℕ) (k : Number) (is : k ≡ key
       by false p = refl
 
 module _ (s key : List ℕ) (fresh : Bool) (i : ℕ) where
-  pub with-past : length s ≤ i → lineWith key fresh i (drop i s) ≡ i
-  unfolding lineWith
+  pub with-past : length s ≤ i → line_with key fresh i (drop i s) ≡ i
+  unfolding line_with
   with-past h = rw (drop_of_length-le s h)
 
   module _ (h : i < length s) where
-    with-turn : lineWith key fresh i (drop i s)
-        ≡ cond (fresh && starts_with key (drop i s)) i (lineWith key (eqb (get_or s i 0) 10) (i + 1) (drop (i + 1) s))
-    unfolding lineWith
+    with-turn : line_with key fresh i (drop i s)
+        ≡ cond (fresh && starts_with key (drop i s)) i (line_with key (eqb (get_or s i 0) 10) (i + 1) (drop (i + 1) s))
+    unfolding line_with
     with-turn = rw (drop-cons s i 0 h, add-one i)
 
-    pub with-here : (fresh && starts_with key (drop i s)) ≡ true → lineWith key fresh i (drop i s) ≡ i
+    pub with-here : (fresh && starts_with key (drop i s)) ≡ true → line_with key fresh i (drop i s) ≡ i
     with-here e = with-turn ∙ rw e
 
     pub with-on : (fresh && starts_with key (drop i s)) ≡ false
-        → lineWith key fresh i (drop i s) ≡ lineWith key (eqb (get_or s i 0) 10) (i + 1) (drop (i + 1) s)
+        → line_with key fresh i (drop i s) ≡ line_with key (eqb (get_or s i 0) 10) (i + 1) (drop (i + 1) s)
     with-on e = with-turn ∙ rw e

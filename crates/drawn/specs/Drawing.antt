@@ -1,48 +1,48 @@
 -- The tour that a text has, as people write it down: the first line that begins with `runin=`, and the line `loop=` behind it. Lines before
 -- are passed over, and what follows is not looked at.
---   lineWith key fresh i d  == the index of the first line that begins with key, where d stands at index i of a text and begins a line if
+--   line_with key fresh i d  == the index of the first line that begins with key, where d stands at index i of a text and begins a line if
 --                              `fresh`; where there is none, the index just past d
---   runinAt s               == the index of the first line of s that begins with `runin=`, or the length of s
---   draftAt s at            == what the line `runin=` at index `at` and the line `loop=` behind it come to; a place is a byte
---   draftOf s               == so for the first such line of s
---   lengthsOf d             == how many places its lists have
+--   runin_at s               == the index of the first line of s that begins with `runin=`, or the length of s
+--   draft_at s at            == what the line `runin=` at index `at` and the line `loop=` behind it come to; a place is a byte
+--   draft_of s               == so for the first such line of s
+--   lengths_of d             == how many places its lists have
 --   roomy x r l             == buffers of r and l bytes have room for so many
 --   fitting x r l           == the tour of two lines without a fault
---   drawnOf found last x r l == the tour of lines that end with `last`, if they are found
---   readTour s r l          == the tour of the text s, with buffers of r and l bytes
---   runinOf s, loop_of s     == the places of its run-in and its loop
+--   drawn_of found last x r l == the tour of lines that end with `last`, if they are found
+--   read_tour s r l          == the tour of the text s, with buffers of r and l bytes
+--   runin_of s, loop_of s     == the places of its run-in and its loop
 --   written drawn ps b      == the buffer b after this tour: the places ps over its front, or untouched where there is none
 use Rattle.std.specs.Prelude.{Bool, true, cond, ◌&&◌, List, [], ◌∷◌, ◌++◌, ℕ, ◌+◌, length, drop, leb, ltb, eqb}
 use Rattle.text.specs.Scan.{starts_with}
 use Rattle.text.specs.Line.{pair}
-use Rattle.text.specs.List.{listLine, places_of}
+use Rattle.text.specs.List.{list_line, places_of}
 use Rattle.text.specs.declared.line.Line.{Line}
 use Rattle.text.specs.declared.line.Line.TheVariants as line
-use Rattle.answer.specs.Text.{runinKey, loopKey}
+use Rattle.answer.specs.Text.{runin_key, loop_key}
 use Rattle.drawn.specs.declared.Lengths.{Lengths}
 use Rattle.drawn.specs.declared.Draft.{Draft}
 use Rattle.drawn.specs.declared.Lack.TheVariants.{Missing, Faulty, Long}
 use Rattle.drawn.specs.declared.Drawn.{Drawn}
 use Rattle.drawn.specs.declared.Drawn.TheVariants.{Tour, Nothing}
 
-unfoldable pub lineWith : List ℕ → Bool → ℕ → List ℕ → ℕ
-lineWith key fresh i [] = i
-lineWith key fresh i (b ∷ d) = cond (fresh && starts_with key (b ∷ d)) i (lineWith key (eqb b 10) (i + 1) d)
+unfoldable pub line_with : List ℕ → Bool → ℕ → List ℕ → ℕ
+line_with key fresh i [] = i
+line_with key fresh i (b ∷ d) = cond (fresh && starts_with key (b ∷ d)) i (line_with key (eqb b 10) (i + 1) d)
 
-abbrev pub runinAt : List ℕ → ℕ
-runinAt s = lineWith runinKey true 0 s
+abbrev pub runin_at : List ℕ → ℕ
+runin_at s = line_with runin_key true 0 s
 
-unfoldable pub draftAt : List ℕ → ℕ → Draft
-draftAt s at =
-    let stem = listLine s (line.Numbers (pair 0 0) (record { at = at })) runinKey 256 in
-    let cycle = listLine s stem.line loopKey 256 in
+unfoldable pub draft_at : List ℕ → ℕ → Draft
+draft_at s at =
+    let stem = list_line s (line.Numbers (pair 0 0) (record { at = at })) runin_key 256 in
+    let cycle = list_line s stem.line loop_key 256 in
     record { line = cycle.line; stem = stem.list; cycle = cycle.list }
 
-abbrev pub draftOf : List ℕ → Draft
-draftOf s = draftAt s (runinAt s)
+abbrev pub draft_of : List ℕ → Draft
+draft_of s = draft_at s (runin_at s)
 
-abbrev pub lengthsOf : Draft → Lengths
-lengthsOf d = record { stem = d.stem.count; cycle = d.cycle.count }
+abbrev pub lengths_of : Draft → Lengths
+lengths_of d = record { stem = d.stem.count; cycle = d.cycle.count }
 
 abbrev pub roomy : Lengths → ℕ → ℕ → Bool
 roomy x r l = leb x.stem r && leb x.cycle l
@@ -54,17 +54,17 @@ abbrev pub judge : Line → Lengths → ℕ → ℕ → Drawn
 judge (line.Fault f) x r l = Nothing (Faulty f)
 judge (line.Numbers xs c) x r l = fitting x r l
 
-abbrev pub drawnOf : Bool → Line → Lengths → ℕ → ℕ → Drawn
-drawnOf found last x r l = cond found (judge last x r l) (Nothing Missing)
+abbrev pub drawn_of : Bool → Line → Lengths → ℕ → ℕ → Drawn
+drawn_of found last x r l = cond found (judge last x r l) (Nothing Missing)
 
-unfoldable pub readTour : List ℕ → ℕ → ℕ → Drawn
-readTour s r l = drawnOf (ltb (runinAt s) (length s)) (draftOf s).line (lengthsOf (draftOf s)) r l
+unfoldable pub read_tour : List ℕ → ℕ → ℕ → Drawn
+read_tour s r l = drawn_of (ltb (runin_at s) (length s)) (draft_of s).line (lengths_of (draft_of s)) r l
 
-abbrev pub runinOf : List ℕ → List ℕ
-runinOf s = places_of s (draftOf s).stem
+abbrev pub runin_of : List ℕ → List ℕ
+runin_of s = places_of s (draft_of s).stem
 
 abbrev pub loop_of : List ℕ → List ℕ
-loop_of s = places_of s (draftOf s).cycle
+loop_of s = places_of s (draft_of s).cycle
 
 abbrev pub written : Drawn → List ℕ → List ℕ → List ℕ
 written (Tour x) places buffer = places ++ drop (length places) buffer

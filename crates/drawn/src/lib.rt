@@ -2,7 +2,7 @@
 //! before these two are passed over, and what follows them is not looked at.
 ghost use Rattle.std.specs.Prelude.{◌≡◌, true, ◌&&◌, eqb, length, drop};
 ghost use Rattle.text.specs.Scan.{starts_with};
-ghost use Rattle.drawn.specs.Drawing.{lineWith, draftAt, roomy, fitting, drawnOf, readTour, runinOf, loop_of, written};
+ghost use Rattle.drawn.specs.Drawing.{line_with, draft_at, roomy, fitting, drawn_of, read_tour, runin_of, loop_of, written};
 
 use text::fault::Fault;
 use text::line::{Cursor, Line, pair};
@@ -61,7 +61,7 @@ fn begins(s: &[u8], at: usize, fresh: bool, key: &[u8]) -> bool
 
 // The index of the first line that begins with the key, or the text's length where none does.
 fn line_with(s: &[u8], key: &[u8]) -> usize
-    ensures { result ≡ lineWith key.now true 0 s.now }
+    ensures { result ≡ line_with key.now true 0 s.now }
 {
     let mut fresh = true;
     let mut i = 0;
@@ -77,7 +77,7 @@ fn line_with(s: &[u8], key: &[u8]) -> usize
 
 // The line `runin=` at index `at`, and the line `loop=` behind it.
 fn draft_at(s: &[u8], at: usize) -> Draft
-    ensures { result ≡ draftAt s.now at }
+    ensures { result ≡ draft_at s.now at }
 {
     let before = Line::Numbers(pair(0, 0), Cursor { at });
     let runin = list_line(s, before, b"runin=", 256);
@@ -115,7 +115,7 @@ fn fitting(x: Lengths, runin: usize, cycle: usize) -> Drawn
 
 // The tour of a text whose line `runin=` was found or not, with what the two lines come to.
 fn drawn_of(found: bool, line: Line, x: Lengths, runin: usize, cycle: usize) -> Drawn
-    ensures { result ≡ drawnOf found line x runin cycle }
+    ensures { result ≡ drawn_of found line x runin cycle }
 {
     if found {
         let Line::Fault(fault) = line else {
@@ -129,8 +129,8 @@ fn drawn_of(found: bool, line: Line, x: Lengths, runin: usize, cycle: usize) -> 
 // Reads the tour of a text: its places over the front of run-in and loop, and how many there are; or why there is none, with no byte
 // touched.
 pub fn read_tour(s: &[u8], runin: &mut [u8], cycle: &mut [u8]) -> Drawn
-    ensures value { result ≡ readTour s.now (length runin.old) (length cycle.old) }
-    ensures runin_after { runin.new ≡ written result (runinOf s.now) runin.old }
+    ensures value { result ≡ read_tour s.now (length runin.old) (length cycle.old) }
+    ensures runin_after { runin.new ≡ written result (runin_of s.now) runin.old }
     ensures cycle_after { cycle.new ≡ written result (loop_of s.now) cycle.old }
 {
     let at = line_with(s, b"runin=");

@@ -16,7 +16,7 @@ use lib.ListN.{length, get_or-append}
 use lib.Dec.{leb}
 use Rattle.base.proofs.Tests.{and_intro, and_left, and_right, false-not-true}
 use Rattle.plan.specs.WellFormed.{WellFormed}
-use Rattle.plan.specs.Size.{size, loopRoom, tooLarge, roomy}
+use Rattle.plan.specs.Size.{size, loop_room, too_large, roomy}
 use Rattle.plan.specs.Tour.{parks, IsLasso, Hard}
 use Rattle.plan.specs.Cost.{KeptIs, cost, Best}
 use Rattle.plan.specs.declared.Plan.{Plan}
@@ -24,7 +24,7 @@ use Rattle.plan.specs.Refusal as refused
 use Rattle.plan.specs.declared.Refusal.{Refusal}
 use Rattle.plan.specs.declared.Refusal.TheVariants as cause
 use Rattle.plan.proofs.Tours.{parked-loop, parked-stem}
-use Rattle.reader.specs.Reading.{readPlan}
+use Rattle.reader.specs.Reading.{read_plan}
 use Rattle.reader.specs.declared.Outcome.TheVariants as outcome
 use Rattle.reader.proofs.WellRead.{read-well}
 use Rattle.answer.specs.declared.Answer.{Answer}
@@ -75,7 +75,7 @@ enough-roomy : (room : Room) (p : Plan) (b : Buffers) → enough room p ≡ true
 unfolding Fits
 enough-roomy (at_least r l) p b h f =
     and_intro (le-leb (size p) (length b.runin) (omega (arith, leb-true (size p) r (and_left (leb (size p) r) _ h))))
-    (le-leb (loopRoom p) (length b.loop) (omega (arith, leb-true (loopRoom p) l (and_right (leb (size p) r) _ h))))
+    (le-leb (loop_room p) (length b.loop) (omega (arith, leb-true (loop_room p) l (and_right (leb (size p) r) _ h))))
 enough-roomy (exactly r l) p b h f = rw (f.0, f.1) h
 
 lacking-roomy : (room : Room) (p : Plan) (b : Buffers) → lacking room p ≡ true → Fits room b → roomy p (length b.runin) (length b.loop) ≡ false
@@ -94,7 +94,7 @@ heard text room x tells b b' r h f P =
     let t = tells b b' A.answer f A.told in
     (A.returned ∙ t.number, subst (Tells x) (sym (block-exact text b b' r h P)) t)
 
-pub turned-away : (text : List ℕ) (x : Refusal) → (readPlan text).outcome ≡ outcome.Refused x → Turned text (refused.number x) (refused.line_of x)
+pub turned-away : (text : List ℕ) (x : Refusal) → (read_plan text).outcome ≡ outcome.Refused x → Turned text (refused.number x) (refused.line_of x)
 unfolding verdict Told
 turned-away text x o b b' r h P =
     let A = answered text b b' r h P in
@@ -102,13 +102,13 @@ turned-away text x o b b' r h P =
     let e = block-exact text b b' r h P in
     (A.returned ∙ ap (λ a. a.number) t.answer, ap (λ a. a.number) e ∙ ap (λ a. a.number) t.answer, ap (λ a. a.line) e ∙ ap (λ a. a.line) t.answer)
 
-pub repeated : (text : List ℕ) → (readPlan text).outcome ≡ outcome.Plan → parks (readPlan text).plan (readPlan text).plan.start ≡ true
-    → Repeated text (readPlan text).plan.start
+pub repeated : (text : List ℕ) → (read_plan text).outcome ≡ outcome.Plan → parks (read_plan text).plan (read_plan text).plan.start ≡ true
+    → Repeated text (read_plan text).plan.start
 unfolding verdict
 repeated text o parked b b' h P =
-    let plan = (readPlan text).plan in
+    let plan = (read_plan text).plan in
     let A = answered text b b' 0 h P in
-    let t = told-tour plan (tooLarge plan) (roomy plan (length b.runin) (length b.loop)) (rw o at A.told) (sym A.returned) in
+    let t = told-tour plan (too_large plan) (roomy plan (length b.runin) (length b.loop)) (rw o at A.told) (sym A.returned) in
     let e = block-exact text b b' 0 h P ∙ t.answer in
     let stay = parked-loop plan plan.start parked t.stem t.cycle t.lasso 0 (omega (arith, t.lasso.filled)) t.lasso.begins in
     let before = parked-stem plan plan.start parked t.stem t.cycle t.lasso t.lasso.begins in (
@@ -117,9 +117,9 @@ repeated text o parked b b' h P =
       λ i l. let k : i < length t.cycle = rw (ap (λ a. a.cycle) e) at l in rw t.cycle-text (get_or-append t.cycle _ 0 i k ∙ stay i k),
     )
 
-module _ (text : List ℕ) (room : Room) (o : (readPlan text).outcome ≡ outcome.Plan) (small : size (readPlan text).plan ≤ 2048) where
+module _ (text : List ℕ) (room : Room) (o : (read_plan text).outcome ≡ outcome.Plan) (small : size (read_plan text).plan ≤ 2048) where
   abbrev plan : Plan
-  plan = (readPlan text).plan
+  plan = (read_plan text).plan
 
   pub answers-tour : enough room plan ≡ true → (k : ℕ) → Best plan k → (stem cycle : List ℕ) → IsLasso plan stem cycle → Hard plan stem cycle → KeptIs plan stem cycle k
       → Answers text room (tour (cost plan k) k (ones k))

@@ -25,10 +25,10 @@ use Rattle.plan.specs.Key.{key}
 use Rattle.plan.specs.declared.Plan.{Plan}
 use Rattle.plan.proofs.Keys.{key-mono}
 use Rattle.plan.proofs.Ties.{Within}
-use Rattle.product.specs.Product.{arcOf, coloursOf, startNode}
+use Rattle.product.specs.Product.{arc_of, colours_of, start_node}
 use Rattle.optimality.specs.Offer.{Edge, Colour, Offers, Choice, Nothing}
 use Rattle.optimality.proofs.Colours.{bit-colour}
-use Rattle.figures.specs.Certificate.{everyOf, someOf, implies, has, listed, shades, turns, closed, parted, certified, walksBy}
+use Rattle.figures.specs.Certificate.{every_of, some_of, implies, has, listed, shades, turns, closed, parted, certified, walks_by}
 
 pub mp : (a b : Bool) → implies a b ≡ true → a ≡ true → b ≡ true
 mp true b h e = h
@@ -47,32 +47,32 @@ or_elim false b h e = h
 
 -- ---- lists of nodes
 
-every-has : (c : List ℕ) (f : ℕ → Bool) (v : ℕ) → everyOf c f ≡ true → has c v ≡ true → f v ≡ true
-unfolding everyOf someOf
+every-has : (c : List ℕ) (f : ℕ → Bool) (v : ℕ) → every_of c f ≡ true → has c v ≡ true → f v ≡ true
+unfolding every_of some_of
 every-has [] f v h l = absurd (false-not-true l refl)
-every-has (x ∷ c) f v h l = by (eqb v x) refl (every-has c f v (and_right (f x) (everyOf c f) h))
+every-has (x ∷ c) f v h l = by (eqb v x) refl (every-has c f v (and_right (f x) (every_of c f) h))
   where
     by : (b : Bool) → eqb v x ≡ b → (has c v ≡ true → f v ≡ true) → f v ≡ true
-    by true e ih = rw (eqb-true v x e) (and_left (f x) (everyOf c f) h)
+    by true e ih = rw (eqb-true v x e) (and_left (f x) (every_of c f) h)
     by false e ih = ih (or_elim (eqb v x) (has c v) l e)
 
-some-has : (c : List ℕ) (f : ℕ → Bool) (v : ℕ) → has c v ≡ true → f v ≡ true → someOf c f ≡ true
-unfolding someOf
+some-has : (c : List ℕ) (f : ℕ → Bool) (v : ℕ) → has c v ≡ true → f v ≡ true → some_of c f ≡ true
+unfolding some_of
 some-has [] f v l h = absurd (false-not-true l refl)
 some-has (x ∷ c) f v l h = by (eqb v x) refl (λ l. some-has c f v l h)
   where
-    by : (b : Bool) → eqb v x ≡ b → (has c v ≡ true → someOf c f ≡ true) → (f x || someOf c f) ≡ true
-    by true e ih = or_left (f x) (someOf c f) (rw (← eqb-true v x e) h)
-    by false e ih = or_right (f x) (someOf c f) (ih (or_elim (eqb v x) (has c v) l e))
+    by : (b : Bool) → eqb v x ≡ b → (has c v ≡ true → some_of c f ≡ true) → (f x || some_of c f) ≡ true
+    by true e ih = or_left (f x) (some_of c f) (rw (← eqb-true v x e) h)
+    by false e ih = or_right (f x) (some_of c f) (ih (or_elim (eqb v x) (has c v) l e))
 
-shades-has : (p : Plan) (c : List ℕ) (v i : ℕ) → has c v ≡ true → bit (coloursOf p v) i ≡ 1 → bit (shades p c) i ≡ 1
-unfolding someOf shades
+shades-has : (p : Plan) (c : List ℕ) (v i : ℕ) → has c v ≡ true → bit (colours_of p v) i ≡ 1 → bit (shades p c) i ≡ 1
+unfolding some_of shades
 shades-has p [] v i l h = absurd (false-not-true l refl)
-shades-has p (x ∷ c) v i l h = bit-or (coloursOf p x) (shades p c) i ∙ by (eqb v x) refl (λ l. shades-has p c v i l h)
+shades-has p (x ∷ c) v i l h = bit-or (colours_of p x) (shades p c) i ∙ by (eqb v x) refl (λ l. shades-has p c v i l h)
   where
-    by : (b : Bool) → eqb v x ≡ b → (has c v ≡ true → bit (shades p c) i ≡ 1) → max (bit (coloursOf p x) i) (bit (shades p c) i) ≡ 1
-    by true e ih = let same : bit (coloursOf p x) i ≡ 1 = rw (← eqb-true v x e) h in omega (arith, bit-lt (shades p c) i)
-    by false e ih = omega (arith, ih (or_elim (eqb v x) (has c v) l e), bit-lt (coloursOf p x) i)
+    by : (b : Bool) → eqb v x ≡ b → (has c v ≡ true → bit (shades p c) i ≡ 1) → max (bit (colours_of p x) i) (bit (shades p c) i) ≡ 1
+    by true e ih = let same : bit (colours_of p x) i ≡ 1 = rw (← eqb-true v x e) h in omega (arith, bit-lt (shades p c) i)
+    by false e ih = omega (arith, ih (or_elim (eqb v x) (has c v) l e), bit-lt (colours_of p x) i)
 
 -- ---- parts
 
@@ -100,9 +100,9 @@ module _ (p : Plan) (q : ℕ → Bool) where
     where
       by : (b : Bool) → has c u ≡ b → (listed cs u ≡ true → Edge p u v → listed cs v ≡ true) → (has c v || listed cs v) ≡ true
       by true m ih =
-          mp (arcOf p u v) (has c v || listed cs v)
-          (all-elim (λ v. implies (arcOf p u v) (has c v || listed cs v)) (size p)
-          (every-has c (λ u. all_below (size p) (λ v. implies (arcOf p u v) (has c v || listed cs v))) u (is-closed c cs h) m) v e.to)
+          mp (arc_of p u v) (has c v || listed cs v)
+          (all-elim (λ v. implies (arc_of p u v) (has c v || listed cs v)) (size p)
+          (every-has c (λ u. all_below (size p) (λ v. implies (arc_of p u v) (has c v || listed cs v))) u (is-closed c cs h) m) v e.to)
           e.arc
       by false m ih = or_right (has c v) (listed cs v) (ih (or_elim (has c u) (listed cs u) l m) e)
 
@@ -129,11 +129,11 @@ module _ (p : Plan) (q : ℕ → Bool) where
           in-part w m true k = refl
           in-part w m false k = absurd (false-not-true (star-listed cs (rest c cs h) w v m.from (or_elim (has c w) (listed cs w) (star-listed (c ∷ cs) h v w m.to l) k)) e)
 
-  module _ (cs : List (List ℕ)) (h : certified p q cs ≡ true) (v k : ℕ) (reached : Star (Edge p) (startNode p) v) (offer : Offers p v k) where
+  module _ (cs : List (List ℕ)) (h : certified p q cs ≡ true) (v k : ℕ) (reached : Star (Edge p) (start_node p) v) (offer : Offers p v k) where
     part : Part v
     part =
-        let parts = and_right (listed cs (startNode p)) (parted p q cs) h in
-        part_of cs parts v (star-listed cs parts (startNode p) v reached (and_left (listed cs (startNode p)) (parted p q cs) h))
+        let parts = and_right (listed cs (start_node p)) (parted p q cs) h in
+        part_of cs parts v (star-listed cs parts (start_node p) v reached (and_left (listed cs (start_node p)) (parted p q cs) h))
 
     met : (c : ℕ) → c ≤ p.rules → (w : ℕ) × Colour p c w × Mutual (Edge p) v w → bit (shades p part.nodes) c ≡ 1
     met c l m = shades-has p part.nodes m.0 c (part.holds m.0 m.2) (bit-colour p m.0 c l m.1)
@@ -143,8 +143,8 @@ module _ (p : Plan) (q : ℕ → Bool) where
       where
         by : Plus (Edge p) v v → turns p part.nodes ≡ true
         by (plus {v = x} e s) =
-            some-has part.nodes (λ u. someOf part.nodes (arcOf p u)) v (part.holds v mutual-refl)
-            (some-has part.nodes (arcOf p v) x (part.holds x (record { to = star-one e; from = s })) e.arc)
+            some-has part.nodes (λ u. some_of part.nodes (arc_of p u)) v (part.holds v mutual-refl)
+            (some-has part.nodes (arc_of p v) x (part.holds x (record { to = star-one e; from = s })) e.arc)
 
     pub offered : (m : ℕ) × (q m ≡ true) × Within p.rules k m
     unfolding bit
@@ -165,22 +165,22 @@ none-by p cs h v reached offer = false-not-true (offered p (λ m. false) cs h v 
 
 -- ---- walks
 
-pub walks-by : (p : Plan) (u : ℕ) (xs : List ℕ) (v : ℕ) → walksBy p u xs v ≡ true → Walk (Edge p) u xs v
-unfolding walksBy
+pub walks-by : (p : Plan) (u : ℕ) (xs : List ℕ) (v : ℕ) → walks_by p u xs v ≡ true → Walk (Edge p) u xs v
+unfolding walks_by
 walks-by p u [] v h = rw (eqb-true u v h) arrived
-walks-by p u (x ∷ xs) v h = rw (← eqb-true u x (and_left (eqb u x) _ h)) (leave edge (walks-by p y xs v (and_right (arcOf p u y) _ c)))
+walks-by p u (x ∷ xs) v h = rw (← eqb-true u x (and_left (eqb u x) _ h)) (leave edge (walks-by p y xs v (and_right (arc_of p u y) _ c)))
   where
     y : ℕ
     y = get_or xs 0 v
 
-    a : (ltb u (size p) && (ltb y (size p) && (arcOf p u y && walksBy p y xs v))) ≡ true
+    a : (ltb u (size p) && (ltb y (size p) && (arc_of p u y && walks_by p y xs v))) ≡ true
     a = and_right (eqb u x) _ h
 
-    b : (ltb y (size p) && (arcOf p u y && walksBy p y xs v)) ≡ true
+    b : (ltb y (size p) && (arc_of p u y && walks_by p y xs v)) ≡ true
     b = and_right (ltb u (size p)) _ a
 
-    c : (arcOf p u y && walksBy p y xs v) ≡ true
+    c : (arc_of p u y && walks_by p y xs v) ≡ true
     c = and_right (ltb y (size p)) _ b
 
     edge : Edge p u y
-    edge = record { from = ltb-true u (size p) (and_left (ltb u (size p)) _ a); to = ltb-true y (size p) (and_left (ltb y (size p)) _ b); arc = and_left (arcOf p u y) _ c }
+    edge = record { from = ltb-true u (size p) (and_left (ltb u (size p)) _ a); to = ltb-true y (size p) (and_left (ltb y (size p)) _ b); arc = and_left (arc_of p u y) _ c }

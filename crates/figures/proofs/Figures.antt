@@ -13,39 +13,39 @@ use borrow.Author.Tests.{eqb-true, ne_eqb, ltb-true, leb-true}
 use lib.Count.{ones, ones_in}
 use lib.ListN.{length, get_or}
 use lib.Dec.{eqb, leb}
-use Rattle.base.specs.Below.{anyBelow, productBelow, sumBelow, all_below}
-use Rattle.automata.specs.Automaton.{guard, fits, leads, step, blocked, trapStep, final}
-use Rattle.automata.specs.Acceptance.{lassoAt}
+use Rattle.base.specs.Below.{any_below, product_below, sum_below, all_below}
+use Rattle.automata.specs.Automaton.{guard, fits, leads, step, blocked, trap_step, final}
+use Rattle.automata.specs.Acceptance.{lasso_at}
 use Rattle.base.specs.Bits.{bit}
 use Rattle.base.proofs.Tests.{and_left, and_right, false-not-true, all-elim}
 use Rattle.plan.specs.WellFormed.{weight, WellFormed}
 use Rattle.plan.specs.Size.{size}
 use Rattle.plan.specs.Tour.{parks, IsLasso, Hard, Soft, joins}
-use Rattle.plan.specs.Cost.{keeps, KeptIs, cost, costOf, Better}
-use Rattle.plan.specs.Key.{tie, keyOf, key}
+use Rattle.plan.specs.Cost.{keeps, KeptIs, cost, cost_of, Better}
+use Rattle.plan.specs.Key.{tie, key_of, key}
 use Rattle.plan.specs.Refusal as refused
 use Rattle.plan.specs.declared.Plan.{Plan}
 use Rattle.plan.proofs.Keys.{key-mono, key-better}
-use Rattle.text.specs.Scan.{starts_with, isDigit, canonical, digitCount, value, leading, number_at, key_at, newlines, line_at}
-use Rattle.text.specs.Line.{within, lineOfOne, finish}
-use Rattle.reader.specs.Line.{roadLine, move_line}
-use Rattle.reader.specs.Blocks.{repeat, labelBlock, roadBlock, moveBlock, automatonBlock, hardBlock, softBlock, softBlocks}
-use Rattle.reader.specs.Map.{mapOf}
-use Rattle.reader.specs.Reading.{draftOf, answer, readPlan}
+use Rattle.text.specs.Scan.{starts_with, is_digit, canonical, digit_count, value, leading, number_at, key_at, newlines, line_at}
+use Rattle.text.specs.Line.{within, line_of_one, finish}
+use Rattle.reader.specs.Line.{road_line, move_line}
+use Rattle.reader.specs.Blocks.{repeat, label_block, road_block, move_block, automaton_block, hard_block, soft_block, soft_blocks}
+use Rattle.reader.specs.Map.{map_of}
+use Rattle.reader.specs.Reading.{draft_of, answer, read_plan}
 use Rattle.reader.specs.declared.Outcome.{Outcome}
 use Rattle.reader.specs.declared.Outcome.TheVariants as outcome
 use Rattle.reader.proofs.WellRead.{read-well}
 use Rattle.tuples.specs.Radix.{stride, encode}
-use Rattle.product.specs.Product.{radices, tuple, node_of, arcOf, coloursBelow}
+use Rattle.product.specs.Product.{radices, tuple, node_of, arc_of, colours_below}
 use Rattle.optimality.specs.Offer.{Choice}
 use Rattle.optimality.proofs.Bound.{bound}
 use Rattle.optimality.proofs.Best.{lasso-drive, hard-unrolls, soft-unrolls, tour-best, tour-none, exact}
-use Rattle.serve.specs.Upcoming.{upcomingPlaces}
+use Rattle.serve.specs.Upcoming.{upcoming_places}
 use Rattle.figures.specs.Bytes.{bytes}
-use Rattle.figures.specs.Certificate.{implies, everyOf, someOf, listed, shades, parted, walksBy}
+use Rattle.figures.specs.Certificate.{implies, every_of, some_of, listed, shades, parted, walks_by}
 use Rattle.figures.specs.Claim.{Room, Numbers, tour, refusal, Answers, Turned, Repeated, Dear, Tied}
 use Rattle.figures.specs.Figure.{Route, Reason, best, none, short, Figure, answers, turned, repeats, dear, tied, served, plan_of, Holds}
-use Rattle.figures.specs.Figure.{isPlan, turnedAs, all_of, alike, reasonTests, lighter, dearTests, tiedTests, same, isRead, passes}
+use Rattle.figures.specs.Figure.{is_plan, turned_as, all_of, alike, reason_tests, lighter, dear_tests, tied_tests, same, is_read, passes}
 use Rattle.figures.specs.Cases.{figures}
 use Rattle.figures.proofs.Certificates.{mp, offered, best-by, none-by}
 use Rattle.figures.proofs.Routes.{all-nth, stem, cycle, lasso, hard, softs}
@@ -66,22 +66,22 @@ alike-sound x y h =
     let count = eqb-true x.count y.count (test 3) in
     λ i. record { number = number i; cost = cost i; kept = kept i; count = count i }
 
-plan-sound : (o : Outcome) → isPlan o ≡ true → o ≡ outcome.Plan
+plan-sound : (o : Outcome) → is_plan o ≡ true → o ≡ outcome.Plan
 plan-sound (outcome.Refused x) h = absurd (false-not-true h refl)
 plan-sound outcome.Plan h = refl
 
 -- ---- an answer
 
-module _ (text : List ℕ) (room : Room) (x : Numbers) (o : (readPlan text).outcome ≡ outcome.Plan) (small : size (readPlan text).plan ≤ 2048) where
+module _ (text : List ℕ) (room : Room) (x : Numbers) (o : (read_plan text).outcome ≡ outcome.Plan) (small : size (read_plan text).plan ≤ 2048) where
   abbrev p : Plan
-  p = (readPlan text).plan
+  p = (read_plan text).plan
 
   ok : WellFormed p
   ok = read-well text o
 
-  reason-holds : (by : Reason) → all_of (reasonTests p room x by) ≡ true → Answers text room x
+  reason-holds : (by : Reason) → all_of (reason_tests p room x by) ≡ true → Answers text room x
   reason-holds (best cs r) h =
-      let test = all-nth (reasonTests p room x (best cs r)) h in
+      let test = all-nth (reason_tests p room x (best cs r)) h in
       let k = x.kept in
       let listed : k < 2 ^ p.rules = ltb-true k (2 ^ p.rules) (test 2) in
       let choice : Choice p k = best-by p k cs (test 3) in
@@ -90,15 +90,15 @@ module _ (text : List ℕ) (room : Room) (x : Numbers) (o : (readPlan text).outc
       subst (Answers text room) (alike-sound (tour (cost p k) k (ones k)) x (test 0))
       (answers-tour text room o small (test 1) k (tour-best p ok k listed choice) (stem p ok k r d) (cycle p ok k r d) (lasso p ok k r d) (hard p ok k r d) kept)
   reason-holds (none cs) h =
-      let test = all-nth (reasonTests p room x (none cs)) h in
+      let test = all-nth (reason_tests p room x (none cs)) h in
       subst (Answers text room) (alike-sound (refusal 6) x (test 0)) (answers-none text room o small (test 1) (tour-none p ok (none-by p cs (test 2))))
   reason-holds short h =
-      let test = all-nth (reasonTests p room x short) h in
+      let test = all-nth (reason_tests p room x short) h in
       subst (Answers text room) (alike-sound (refusal 5) x (test 0)) (answers-short text room o small (test 1))
 
 -- ---- a refusal
 
-turned-holds : (text : List ℕ) (n line : ℕ) (o : Outcome) → (readPlan text).outcome ≡ o → turnedAs o n line ≡ true → Turned text n line
+turned-holds : (text : List ℕ) (n line : ℕ) (o : Outcome) → (read_plan text).outcome ≡ o → turned_as o n line ≡ true → Turned text n line
 turned-holds text n line outcome.Plan e h = absurd (false-not-true h refl)
 turned-holds text n line (outcome.Refused x) e h =
     let number = eqb-true (refused.number x) n (and_left (eqb (refused.number x) n) (eqb (refused.line_of x) line) h) in
@@ -112,9 +112,9 @@ better-cost p k k' (inl e) = rw e (omega arith)
 better-cost p k k' (inr (inl l)) = omega arith
 better-cost p k k' (inr (inr (e, f))) = omega arith
 
-module _ (p : Plan) (ok : WellFormed p) (rule least k : ℕ) (cs : List (List ℕ)) (r : Route) (h : all_of (dearTests p rule least k cs r) ≡ true) where
-  test : (i : ℕ) → get_or (dearTests p rule least k cs r) i true ≡ true
-  test = all-nth (dearTests p rule least k cs r) h
+module _ (p : Plan) (ok : WellFormed p) (rule least k : ℕ) (cs : List (List ℕ)) (r : Route) (h : all_of (dear_tests p rule least k cs r) ≡ true) where
+  test : (i : ℕ) → get_or (dear_tests p rule least k cs r) i true ≡ true
+  test = all-nth (dear_tests p rule least k cs r) h
 
   inside : rule < p.rules
   inside = ltb-true rule p.rules (test 0)
@@ -123,7 +123,7 @@ module _ (p : Plan) (ok : WellFormed p) (rule least k : ℕ) (cs : List (List �
   costs stem cycle lasso hard soft k' kept =
       let drive = lasso-drive p stem cycle lasso in
       let q : ℕ → Bool = λ m. implies (keeps m rule) (leb (key p k) (key p m)) in
-      let b = bound p ok (lassoAt stem cycle) drive (hard-unrolls p stem cycle lasso hard) k' (λ i l e. soft-unrolls p stem cycle lasso i (kept.accepted i l e)) in
+      let b = bound p ok (lasso_at stem cycle) drive (hard-unrolls p stem cycle lasso hard) k' (λ i l e. soft-unrolls p stem cycle lasso i (kept.accepted i l e)) in
       let m = offered p q cs (test 5) b.0 k' b.1 b.2 in
       let le = leb-true (key p k) (key p m.0) (mp (keeps m.0 rule) _ m.1 (m.2 rule inside has-rule)) in
       let small : k < 2 ^ p.rules = ltb-true k (2 ^ p.rules) (test 3) in
@@ -152,9 +152,9 @@ module _ (p : Plan) (ok : WellFormed p) (rule least k : ℕ) (cs : List (List �
 
 -- ---- a rule of weight 0 that decides
 
-module _ (p : Plan) (ok : WellFormed p) (rule k k' : ℕ) (r : Route) (h : all_of (tiedTests p rule k k' r) ≡ true) where
-  passed : (i : ℕ) → get_or (tiedTests p rule k k' r) i true ≡ true
-  passed = all-nth (tiedTests p rule k k' r) h
+module _ (p : Plan) (ok : WellFormed p) (rule k k' : ℕ) (r : Route) (h : all_of (tied_tests p rule k k' r) ≡ true) where
+  passed : (i : ℕ) → get_or (tied_tests p rule k k' r) i true ≡ true
+  passed = all-nth (tied_tests p rule k k' r) h
 
   tied-holds : Tied p rule k k'
   tied-holds = record {
@@ -176,21 +176,21 @@ module _ (p : Plan) (ok : WellFormed p) (rule k k' : ℕ) (r : Route) (h : all_o
 pub passes-holds : (f : Figure) → passes f ≡ true → Holds f
 unfolding passes Holds
 passes-holds (answers text n room x by) h =
-    let test = all-nth (isRead text ∷ eqb (size (plan_of text)) n ∷ leb n 2048 ∷ all_of (reasonTests (plan_of text) room x by) ∷ []) h in
+    let test = all-nth (is_read text ∷ eqb (size (plan_of text)) n ∷ leb n 2048 ∷ all_of (reason_tests (plan_of text) room x by) ∷ []) h in
     let e = eqb-true (size (plan_of text)) n (test 1) in
     (e, reason-holds (bytes text) room x (plan-sound _ (test 0)) (omega (arith, e, leb-true n 2048 (test 2))) by (test 3))
-passes-holds (turned text n line) h = turned-holds (bytes text) n line (readPlan (bytes text)).outcome refl h
+passes-holds (turned text n line) h = turned-holds (bytes text) n line (read_plan (bytes text)).outcome refl h
 passes-holds (repeats text v) h =
-    let test = all-nth (isRead text ∷ eqb (plan_of text).start v ∷ parks (plan_of text) v ∷ []) h in
+    let test = all-nth (is_read text ∷ eqb (plan_of text).start v ∷ parks (plan_of text) v ∷ []) h in
     let e = eqb-true (plan_of text).start v (test 1) in
     subst (Repeated (bytes text)) e (repeated (bytes text) (plan-sound _ (test 0)) (rw (← e) at (test 2)))
 passes-holds (dear text rule least k cs r) h =
-    let test = all-nth (isRead text ∷ all_of (dearTests (plan_of text) rule least k cs r) ∷ []) h in
+    let test = all-nth (is_read text ∷ all_of (dear_tests (plan_of text) rule least k cs r) ∷ []) h in
     dear-holds (plan_of text) (read-well (bytes text) (plan-sound _ (test 0))) rule least k cs r (test 1)
 passes-holds (tied text rule k k' r) h =
-    let test = all-nth (isRead text ∷ all_of (tiedTests (plan_of text) rule k k' r) ∷ []) h in
+    let test = all-nth (is_read text ∷ all_of (tied_tests (plan_of text) rule k k' r) ∷ []) h in
     tied-holds (plan_of text) (read-well (bytes text) (plan-sound _ (test 0))) rule k k' r (test 1)
-passes-holds (served stem cycle t part) h = same-sound (upcomingPlaces stem cycle t) part h
+passes-holds (served stem cycle t part) h = same-sound (upcoming_places stem cycle t) part h
 
 pass : List Figure → Bool
 pass [] = true
@@ -203,11 +203,11 @@ pass-holds (f ∷ fs) h zero l = passes-holds f (and_left (passes f) (pass fs) h
 pass-holds (f ∷ fs) h (suc i) l = pass-holds fs (and_right (passes f) (pass fs) h) i (omega arith)
 
 all_pass : pass figures ≡ true
-unfolding pass passes all_of bytes upcomingPlaces
-    readPlan answer draftOf mapOf labelBlock roadBlock moveBlock automatonBlock hardBlock softBlock softBlocks repeat
-    within lineOfOne roadLine move_line finish starts_with isDigit canonical digitCount value leading number_at key_at newlines line_at
-    size productBelow everyOf someOf listed shades parted walksBy all_below arcOf node_of tuple encode stride radices
-    joins step trapStep blocked leads fits guard anyBelow final bit coloursBelow costOf keyOf tie sumBelow ones ones_in
+unfolding pass passes all_of bytes upcoming_places
+    read_plan answer draft_of map_of label_block road_block move_block automaton_block hard_block soft_block soft_blocks repeat
+    within line_of_one road_line move_line finish starts_with is_digit canonical digit_count value leading number_at key_at newlines line_at
+    size product_below every_of some_of listed shades parted walks_by all_below arc_of node_of tuple encode stride radices
+    joins step trap_step blocked leads fits guard any_below final bit colours_below cost_of key_of tie sum_below ones ones_in
 all_pass = refl
 
 pub figures-hold : (i : ℕ) → i < length figures → Holds (get_or figures i (served [] [] 0 []))

@@ -16,11 +16,11 @@ use Rattle.plan.specs.Tour.{IsLasso, Hard, Soft}
 use Rattle.plan.specs.Cost.{keeps}
 use Rattle.plan.specs.declared.Plan.{Plan}
 use Rattle.graph.specs.Paths.{Walk}
-use Rattle.product.specs.Product.{startNode, place_of, hardOf, softOf}
+use Rattle.product.specs.Product.{start_node, place_of, hard_of, soft_of}
 use Rattle.optimality.specs.Offer.{Edge}
 use Rattle.optimality.proofs.Witness.{witness-lasso, witness-hard, witness-soft}
 use Rattle.figures.specs.Certificate.{implies}
-use Rattle.figures.specs.Figure.{Route, all_of, meets, driveTests}
+use Rattle.figures.specs.Figure.{Route, all_of, meets, drive_tests}
 use Rattle.figures.proofs.Certificates.{mp, walks-by}
 
 pub all-nth : (bs : List Bool) → all_of bs ≡ true → (i : ℕ) → get_or bs i true ≡ true
@@ -29,12 +29,12 @@ all-nth [] h i = refl
 all-nth (b ∷ bs) h zero = and_left b (all_of bs) h
 all-nth (b ∷ bs) h (suc i) = all-nth bs (and_right b (all_of bs) h) i
 
-module _ (p : Plan) (ok : WellFormed p) (k : ℕ) (r : Route) (h : all_of (driveTests p k r) ≡ true) where
-  test : (i : ℕ) → get_or (driveTests p k r) i true ≡ true
-  test = all-nth (driveTests p k r) h
+module _ (p : Plan) (ok : WellFormed p) (k : ℕ) (r : Route) (h : all_of (drive_tests p k r) ≡ true) where
+  test : (i : ℕ) → get_or (drive_tests p k r) i true ≡ true
+  test = all-nth (drive_tests p k r) h
 
-  stem-walk : Walk (Edge p) (startNode p) r.stem r.home
-  stem-walk = walks-by p (startNode p) r.stem r.home (test 0)
+  stem-walk : Walk (Edge p) (start_node p) r.stem r.home
+  stem-walk = walks-by p (start_node p) r.stem r.home (test 0)
 
   cycle-walk : Walk (Edge p) r.home r.cycle r.home
   cycle-walk = walks-by p r.home r.cycle r.home (test 1)
@@ -55,12 +55,12 @@ module _ (p : Plan) (ok : WellFormed p) (k : ℕ) (r : Route) (h : all_of (drive
   pub hard : Hard p stem cycle
   unfolding stem cycle
   hard =
-      let m = any-elim (λ t. final p.hard (hardOf p (get_or r.cycle t r.home))) (suc (length r.cycle)) (test 3) in
+      let m = any-elim (λ t. final p.hard (hard_of p (get_or r.cycle t r.home))) (suc (length r.cycle)) (test 3) in
       witness-hard p ok r.home r.stem r.cycle stem-walk cycle-walk filled m.0 (omega arith) m.2
 
   pub softs : (i : ℕ) → i < p.rules → keeps k i ≡ true → Soft p stem cycle i
   unfolding stem cycle
   softs i l e =
-      let q : ℕ → Bool = λ i. implies (keeps k i) (meets r (λ v. final (soft p i) (softOf p i v))) in
-      let m = any-elim (λ t. final (soft p i) (softOf p i (get_or r.cycle t r.home))) (suc (length r.cycle)) (mp (keeps k i) _ (all-elim q p.rules (test 4) i l) e) in
+      let q : ℕ → Bool = λ i. implies (keeps k i) (meets r (λ v. final (soft p i) (soft_of p i v))) in
+      let m = any-elim (λ t. final (soft p i) (soft_of p i (get_or r.cycle t r.home))) (suc (length r.cycle)) (mp (keeps k i) _ (all-elim q p.rules (test 4) i l) e) in
       witness-soft p ok r.home r.stem r.cycle stem-walk cycle-walk filled i l m.0 (omega arith) m.2

@@ -17,7 +17,7 @@
 use Rattle.std.specs.Prelude.{◌≡◌, Bool, true, false, not, ◌&&◌, List, [], ◌∷◌, ℕ, suc, ◌^◌, length, get_or, eqb, ltb, leb}
 use Prim.Native.String.{String}
 use Rattle.std.specs.Int.Count.{ones}
-use Rattle.base.specs.Below.{anyBelow, all_below}
+use Rattle.base.specs.Below.{any_below, all_below}
 use Rattle.base.specs.Bits.{bit}
 use Rattle.automata.specs.Automaton.{final}
 use Rattle.plan.specs.WellFormed.{soft, weight}
@@ -27,14 +27,14 @@ use Rattle.plan.specs.Cost.{keeps, cost}
 use Rattle.plan.specs.Key.{key}
 use Rattle.plan.specs.Refusal as refused
 use Rattle.plan.specs.declared.Plan.{Plan}
-use Rattle.reader.specs.Reading.{readPlan}
+use Rattle.reader.specs.Reading.{read_plan}
 use Rattle.reader.specs.declared.Outcome.{Outcome}
 use Rattle.reader.specs.declared.Outcome.TheVariants as outcome
-use Rattle.product.specs.Product.{startNode, hardOf, softOf}
-use Rattle.serve.specs.Upcoming.{upcomingPlaces}
+use Rattle.product.specs.Product.{start_node, hard_of, soft_of}
+use Rattle.serve.specs.Upcoming.{upcoming_places}
 use Rattle.figures.specs.Bytes.{bytes}
 use Rattle.figures.specs.Claim.{Room, at_least, exactly, Numbers, tour, refusal, Answers, Turned, Repeated, Dear, Tied}
-use Rattle.figures.specs.Certificate.{implies, certified, walksBy}
+use Rattle.figures.specs.Certificate.{implies, certified, walks_by}
 
 pub record Route : Type 0 where
   pub stem : List ℕ
@@ -55,7 +55,7 @@ pub data Figure : Type 0 where
   served : (stem cycle : List ℕ) (t : ℕ) (part : List ℕ) → Figure
 
 abbrev pub plan_of : String → Plan
-plan_of text = (readPlan (bytes text)).plan
+plan_of text = (read_plan (bytes text)).plan
 
 unfoldable pub Holds : Figure → Type 0
 Holds (answers text n room x by) = (size (plan_of text) ≡ n) × Answers (bytes text) room x
@@ -63,17 +63,17 @@ Holds (turned text n line) = Turned (bytes text) n line
 Holds (repeats text v) = Repeated (bytes text) v
 Holds (dear text rule least kept by route) = Dear (plan_of text) rule least
 Holds (tied text rule k k' route) = Tied (plan_of text) rule k k'
-Holds (served stem cycle t part) = upcomingPlaces stem cycle t ≡ part
+Holds (served stem cycle t part) = upcoming_places stem cycle t ≡ part
 
 -- ---- the tests
 
-abbrev pub isPlan : Outcome → Bool
-isPlan (outcome.Refused x) = false
-isPlan outcome.Plan = true
+abbrev pub is_plan : Outcome → Bool
+is_plan (outcome.Refused x) = false
+is_plan outcome.Plan = true
 
-abbrev pub turnedAs : Outcome → ℕ → ℕ → Bool
-turnedAs (outcome.Refused x) n line = eqb (refused.number x) n && eqb (refused.line_of x) line
-turnedAs outcome.Plan n line = false
+abbrev pub turned_as : Outcome → ℕ → ℕ → Bool
+turned_as (outcome.Refused x) n line = eqb (refused.number x) n && eqb (refused.line_of x) line
+turned_as outcome.Plan n line = false
 
 abbrev pub enough : Room → Plan → Bool
 enough (at_least runin loop) p = roomy p runin loop
@@ -92,34 +92,34 @@ alike x y = eqb x.number y.number ∷ eqb x.cost y.cost ∷ eqb x.kept y.kept �
 
 -- some node of a route's cycle passes a test
 abbrev pub meets : Route → (ℕ → Bool) → Bool
-meets r q = anyBelow (suc (length r.cycle)) (λ t. q (get_or r.cycle t r.home))
+meets r q = any_below (suc (length r.cycle)) (λ t. q (get_or r.cycle t r.home))
 
 -- a route is a tour that the hard rule and the soft rules of k accept
-abbrev pub driveTests : Plan → ℕ → Route → List Bool
-driveTests p k r =
-    walksBy p (startNode p) r.stem r.home ∷ walksBy p r.home r.cycle r.home ∷ ltb 0 (length r.cycle)
-    ∷ meets r (λ v. final p.hard (hardOf p v))
-    ∷ all_below p.rules (λ i. implies (keeps k i) (meets r (λ v. final (soft p i) (softOf p i v)))) ∷ []
+abbrev pub drive_tests : Plan → ℕ → Route → List Bool
+drive_tests p k r =
+    walks_by p (start_node p) r.stem r.home ∷ walks_by p r.home r.cycle r.home ∷ ltb 0 (length r.cycle)
+    ∷ meets r (λ v. final p.hard (hard_of p v))
+    ∷ all_below p.rules (λ i. implies (keeps k i) (meets r (λ v. final (soft p i) (soft_of p i v)))) ∷ []
 
-abbrev pub reasonTests : Plan → Room → Numbers → Reason → List Bool
-reasonTests p room x (best cs r) =
+abbrev pub reason_tests : Plan → Room → Numbers → Reason → List Bool
+reason_tests p room x (best cs r) =
     all_of (alike (tour (cost p x.kept) x.kept (ones x.kept)) x) ∷ enough room p ∷ ltb x.kept (2 ^ p.rules)
-    ∷ certified p (λ m. leb (key p x.kept) (key p m)) cs ∷ all_of (driveTests p x.kept r) ∷ []
-reasonTests p room x (none cs) = all_of (alike (refusal 6) x) ∷ enough room p ∷ certified p (λ m. false) cs ∷ []
-reasonTests p room x short = all_of (alike (refusal 5) x) ∷ lacking room p ∷ []
+    ∷ certified p (λ m. leb (key p x.kept) (key p m)) cs ∷ all_of (drive_tests p x.kept r) ∷ []
+reason_tests p room x (none cs) = all_of (alike (refusal 6) x) ∷ enough room p ∷ certified p (λ m. false) cs ∷ []
+reason_tests p room x short = all_of (alike (refusal 5) x) ∷ lacking room p ∷ []
 
 -- soft rule i + 1 is the rule, or weighs less
 abbrev pub lighter : Plan → ℕ → ℕ → Bool
 lighter p rule i = implies (not (eqb i rule)) (ltb (weight p i) (weight p rule))
 
-abbrev pub dearTests : Plan → ℕ → ℕ → ℕ → List (List ℕ) → Route → List Bool
-dearTests p rule least k cs r =
+abbrev pub dear_tests : Plan → ℕ → ℕ → ℕ → List (List ℕ) → Route → List Bool
+dear_tests p rule least k cs r =
     ltb rule p.rules ∷ all_below p.rules (lighter p rule) ∷ eqb (cost p k) least ∷ ltb k (2 ^ p.rules) ∷ keeps k rule
-    ∷ certified p (λ m. implies (keeps m rule) (leb (key p k) (key p m))) cs ∷ all_of (driveTests p k r) ∷ []
+    ∷ certified p (λ m. implies (keeps m rule) (leb (key p k) (key p m))) cs ∷ all_of (drive_tests p k r) ∷ []
 
-abbrev pub tiedTests : Plan → ℕ → ℕ → ℕ → Route → List Bool
-tiedTests p rule k k' r =
-    eqb (cost p k) (cost p k') ∷ all_of (driveTests p k' r) ∷ ltb rule p.rules ∷ all_below rule (λ i. eqb (bit k i) (bit k' i)) ∷ keeps k rule
+abbrev pub tied_tests : Plan → ℕ → ℕ → ℕ → Route → List Bool
+tied_tests p rule k k' r =
+    eqb (cost p k) (cost p k') ∷ all_of (drive_tests p k' r) ∷ ltb rule p.rules ∷ all_below rule (λ i. eqb (bit k i) (bit k' i)) ∷ keeps k rule
     ∷ eqb (bit k' rule) 0 ∷ eqb (weight p rule) 0 ∷ []
 
 abbrev pub same : List ℕ → List ℕ → Bool
@@ -128,13 +128,13 @@ same [] (y ∷ ys) = false
 same (x ∷ xs) [] = false
 same (x ∷ xs) (y ∷ ys) = eqb x y && same xs ys
 
-abbrev pub isRead : String → Bool
-isRead text = isPlan (readPlan (bytes text)).outcome
+abbrev pub is_read : String → Bool
+is_read text = is_plan (read_plan (bytes text)).outcome
 
 unfoldable pub passes : Figure → Bool
-passes (answers text n room x by) = all_of (isRead text ∷ eqb (size (plan_of text)) n ∷ leb n 2048 ∷ all_of (reasonTests (plan_of text) room x by) ∷ [])
-passes (turned text n line) = turnedAs (readPlan (bytes text)).outcome n line
-passes (repeats text v) = all_of (isRead text ∷ eqb (plan_of text).start v ∷ parks (plan_of text) v ∷ [])
-passes (dear text rule least k cs r) = all_of (isRead text ∷ all_of (dearTests (plan_of text) rule least k cs r) ∷ [])
-passes (tied text rule k k' r) = all_of (isRead text ∷ all_of (tiedTests (plan_of text) rule k k' r) ∷ [])
-passes (served stem cycle t part) = same (upcomingPlaces stem cycle t) part
+passes (answers text n room x by) = all_of (is_read text ∷ eqb (size (plan_of text)) n ∷ leb n 2048 ∷ all_of (reason_tests (plan_of text) room x by) ∷ [])
+passes (turned text n line) = turned_as (read_plan (bytes text)).outcome n line
+passes (repeats text v) = all_of (is_read text ∷ eqb (plan_of text).start v ∷ parks (plan_of text) v ∷ [])
+passes (dear text rule least k cs r) = all_of (is_read text ∷ all_of (dear_tests (plan_of text) rule least k cs r) ∷ [])
+passes (tied text rule k k' r) = all_of (is_read text ∷ all_of (tied_tests (plan_of text) rule k k' r) ∷ [])
+passes (served stem cycle t part) = same (upcoming_places stem cycle t) part

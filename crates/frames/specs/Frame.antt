@@ -1,5 +1,5 @@
 -- Frames of texts.
---   lengthIn head        == the length that the first six bytes of a frame say
+--   length_in head        == the length that the first six bytes of a frame say
 --   Taken f before after == the buffer when frame f was taken: f's bytes are at its front, so many as f says; where there
 --                           was no frame, f has none and the buffer is as before. What stands on the input, no contract can say
 use Rattle.std.specs.Prelude.{◌≡◌, false, List, ℕ, ◌+◌, ◌-◌, ◌*◌, get_or}
@@ -10,8 +10,8 @@ use Rattle.frames.specs.declared.Frame.{Frame}
 abbrev digit : List ℕ → ℕ → ℕ
 digit head i = get_or head i 0 - 48
 
-abbrev pub lengthIn : List ℕ → ℕ
-lengthIn head = (digit head 0 * 100 + digit head 1 * 10 + digit head 2) * 1000 + (digit head 3 * 100 + digit head 4 * 10 + digit head 5)
+abbrev pub length_in : List ℕ → ℕ
+length_in head = (digit head 0 * 100 + digit head 1 * 10 + digit head 2) * 1000 + (digit head 3 * 100 + digit head 4 * 10 + digit head 5)
 
 pub record Taken (f : Frame) (before after : List ℕ) : Type 0 where
   pub front : IsPrefixLen f.length after

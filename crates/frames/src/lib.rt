@@ -1,6 +1,6 @@
 //! Texts on standard input, one after the other, each in a frame: its length in six digits, a line's end, and its bytes.
 ghost use Rattle.std.specs.Prelude.{◌≡◌, ◌-◌, ◌≤◌};
-ghost use Rattle.frames.specs.Frame.{lengthIn, Taken};
+ghost use Rattle.frames.specs.Frame.{length_in, Taken};
 
 use libc::STDIN_FILENO;
 
@@ -25,7 +25,7 @@ fn digit(b: u8) -> usize
 
 // The length that the first six bytes say.
 fn length_in(head: &[u8; 7]) -> usize
-    ensures { result ≡ lengthIn head.now }
+    ensures { result ≡ length_in head.now }
 {
     let thousands = digit(head[0]) * 100 + digit(head[1]) * 10 + digit(head[2]);
     let ones = digit(head[3]) * 100 + digit(head[4]) * 10 + digit(head[5]);

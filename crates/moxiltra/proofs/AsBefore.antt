@@ -11,7 +11,7 @@ use mathlib.Core.Path.{◌≡◌, sym, subst}
 use mathlib.Core.List.{List}
 use mathlib.Core.Logic.{◌↔◌}
 use Prim.Native.Nat.{ℕ}
-use Rattle.reader.specs.Reading.{readPlan}
+use Rattle.reader.specs.Reading.{read_plan}
 use Rattle.reader.specs.declared.Outcome.TheVariants as outcome
 use Rattle.reader.specs.declared.Reading.{Reading}
 use Rattle.reader.proofs.Singles.{Single}
@@ -34,27 +34,27 @@ abbrev pub Checked : List ℕ → Reading → Type 0
 Checked file r = (stem cycle : List ℕ) (c : Check) → CheckOf file stem cycle c ↔ RuledOf r.outcome r.plan stem cycle c
 
 module _ (file : List ℕ) where
-  pub answered-by : (r : Reading) → readPlan file ≡ r → Answered file r
+  pub answered-by : (r : Reading) → read_plan file ≡ r → Answered file r
   answered-by r same runin loop runin' loop' a = (subst T same, subst T (sym same))
     where
       T : Reading → Type 0
       T x = ToldOf x.outcome x.plan runin loop runin' loop' a
 
-  pub checked-by : (r : Reading) → readPlan file ≡ r → Checked file r
+  pub checked-by : (r : Reading) → read_plan file ≡ r → Checked file r
   checked-by r same stem cycle c = (subst T same, subst T (sym same))
     where
       T : Reading → Type 0
       T x = RuledOf x.outcome x.plan stem cycle c
 
   module _ (no_zero : weights.NoZero file) where
-    pub answered-as-before : Answered file (weights.readBefore file)
+    pub answered-as-before : Answered file (weights.read_before file)
     answered-as-before = answered-by _ (weights.read-as-before file no_zero)
 
-    pub checked-as-before : Checked file (weights.readBefore file)
+    pub checked-as-before : Checked file (weights.read_before file)
     checked-as-before = checked-by _ (weights.read-as-before file no_zero)
 
   abbrev before : Reading
-  before = doubles.readBefore file
+  before = doubles.read_before file
 
   module _ (passed : before.outcome ≡ outcome.Plan) (single : Single before.plan.from before.plan.to before.plan.roads) where
     pub single-answered : Answered file before
@@ -64,15 +64,15 @@ module _ (file : List ℕ) where
     single-checked = checked-by _ (doubles.single-as-before file passed single)
 
   -- of such a file the definitions of before and of now say the same
-  module _ (left : Left (readPlan file).plan) where
+  module _ (left : Left (read_plan file).plan) where
     pub left-answered : (runin loop runin' loop' : List ℕ) (a : Answer)
-        → AnswerTo file runin loop runin' loop' a ↔ ToldBefore (readPlan file).outcome (readPlan file).plan runin loop runin' loop' a
-    left-answered runin loop runin' loop' a = told-as-before (readPlan file).plan left runin loop runin' loop' a (readPlan file).outcome
+        → AnswerTo file runin loop runin' loop' a ↔ ToldBefore (read_plan file).outcome (read_plan file).plan runin loop runin' loop' a
+    left-answered runin loop runin' loop' a = told-as-before (read_plan file).plan left runin loop runin' loop' a (read_plan file).outcome
 
-    pub left-checked : (stem cycle : List ℕ) (c : Check) → CheckOf file stem cycle c ↔ RuledBefore (readPlan file).outcome (readPlan file).plan stem cycle c
-    left-checked stem cycle c = ruled-as-before (readPlan file).plan left stem cycle (readPlan file).outcome c
+    pub left-checked : (stem cycle : List ℕ) (c : Check) → CheckOf file stem cycle c ↔ RuledBefore (read_plan file).outcome (read_plan file).plan stem cycle c
+    left-checked stem cycle c = ruled-as-before (read_plan file).plan left stem cycle (read_plan file).outcome c
 
-  module _ (passes : (readPlan file).outcome ≡ outcome.Plan) where
+  module _ (passes : (read_plan file).outcome ≡ outcome.Plan) where
     pub passed-answered : Answered file before
     passed-answered = answered-by _ (doubles.passed-as-before file passes)
 

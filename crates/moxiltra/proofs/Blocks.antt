@@ -17,19 +17,19 @@ use Rattle.plan.specs.declared.Refusal.TheVariants as refusal
 use Rattle.answer.specs.Block.{block_of, answer_of}
 use Rattle.answer.specs.declared.Answer.{Answer}
 use Rattle.answer.proofs.Blocks.{length-block, answer-block}
-use Rattle.readback.specs.Reading.{runinOf, loop_of, written}
+use Rattle.readback.specs.Reading.{runin_of, loop_of, written}
 use Rattle.readback.specs.Reply as told
 use Rattle.readback.specs.Block as reply
-use Rattle.readback.specs.Block.{said, saidBy}
+use Rattle.readback.specs.Block.{said, said_by}
 use Rattle.readback.specs.declared.Reply.{Reply}
 use Rattle.readback.proofs.Blocks.{block-says, reply-narrow, length-block as length-reply}
 use Rattle.checker.specs.Check as checked
 use Rattle.checker.specs.Check.{CheckOf}
-use Rattle.checker.specs.Block as checkBlock
+use Rattle.checker.specs.Block as check_block
 use Rattle.checker.specs.declared.Check.{Check}
 use Rattle.promise.specs.Promise.{AnswerTo}
 use Rattle.promise.proofs.Bounds.{told-narrow}
-use Rattle.moxiltra.specs.Entries.{Buffers, buffers, ByBlock, Answered, Promise, replyTo, Replied, Reading, Checked, Checking}
+use Rattle.moxiltra.specs.Entries.{Buffers, buffers, ByBlock, Answered, Promise, reply_to, Replied, Reading, Checked, Checking}
 
 module _ (n : ℕ) (b b' : Buffers) (r : ℕ) (P : Type 0) where
   short : length b.block < n → r ≡ number refusal.BlockTooShort → b' ≡ b → ByBlock n b b' r P
@@ -56,7 +56,7 @@ unfolding Reading
 reply-short text b h r e = short 32 b b r _ h e refl
 
 pub reply-told : (text block runin loop block' runin' loop' : List ℕ) (q : Reply) (r : ℕ) → 32 ≤ length block
-    → q ≡ replyTo text (buffers block runin loop) → runin' ≡ written q (runinOf text) runin → loop' ≡ written q (loop_of text) loop
+    → q ≡ reply_to text (buffers block runin loop) → runin' ≡ written q (runin_of text) runin → loop' ≡ written q (loop_of text) loop
     → block' ≡ reply.block_of q ++ drop 32 block → r ≡ told.number q
     → Reading text (buffers block runin loop) (buffers block' runin' loop') r
 unfolding Reading
@@ -68,7 +68,7 @@ unfolding Checking
 check-short plan runin loop block h r e = short 24 (buffers block runin loop) (buffers block runin loop) r _ h e refl
 
 pub check-told : (plan runin loop block block' : List ℕ) (c : Check) (r : ℕ) → 24 ≤ length block → CheckOf plan runin loop c
-    → block' ≡ checkBlock.block_of c ++ drop 24 block → r ≡ checked.number c → Checking plan runin loop block block' r
+    → block' ≡ check_block.block_of c ++ drop 24 block → r ≡ checked.number c → Checking plan runin loop block block' r
 unfolding Checking
 check-told plan runin loop block block' c r h t w n =
     long 24 (buffers block runin loop) (buffers block' runin loop) r _ h (record { check = c; told = t; returned = n; filled = w })
@@ -91,11 +91,11 @@ module _ (text : List ℕ) (b b' : Buffers) (r : ℕ) (h : 32 ≤ length b.block
   replied = long-is 32 b b' r _ h P
 
   pub reply-exact : length b.runin < 18446744073709551616 → length b.loop < 18446744073709551616
-      → saidBy (take 32 b'.block) ≡ said (replyTo text b)
+      → said_by (take 32 b'.block) ≡ said (reply_to text b)
   reply-exact few low =
-      ap (λ x. saidBy (take 32 x)) replied.block
-      ∙ ap saidBy (take_at (reply.block_of (replyTo text b)) (drop 32 b.block) 32 (length-reply (replyTo text b)))
-      ∙ block-says (replyTo text b) (reply-narrow text (length b.runin) (length b.loop) few low)
+      ap (λ x. said_by (take 32 x)) replied.block
+      ∙ ap said_by (take_at (reply.block_of (reply_to text b)) (drop 32 b.block) 32 (length-reply (reply_to text b)))
+      ∙ block-says (reply_to text b) (reply-narrow text (length b.runin) (length b.loop) few low)
 
 pub check-is : (plan runin loop block block' : List ℕ) (r : ℕ) → 24 ≤ length block → Checking plan runin loop block block' r → Checked plan runin loop block block' r
 unfolding Checking

@@ -8,7 +8,7 @@ use Prim.Native.Nat.{ℕ, ◌≤◌}
 use native.Mathlib.Omega.{arith}
 use lib.ListN.{length, take, drop}
 use lib.Seq.{take-append_seam}
-use Rattle.plan.specs.Size.{tooLarge, roomy}
+use Rattle.plan.specs.Size.{too_large, roomy}
 use Rattle.plan.specs.Tour.{IsLasso, Hard}
 use Rattle.plan.specs.Cost.{KeptIs}
 use Rattle.plan.specs.WellFormed.{WellFormed}
@@ -16,16 +16,16 @@ use Rattle.plan.specs.declared.Refusal.{Refusal}
 use Rattle.plan.specs.declared.Refusal.TheVariants as refusal
 use Rattle.plan.proofs.Numbers.{number-some}
 use Rattle.plan.specs.declared.Plan.{Plan}
-use Rattle.reader.specs.Reading.{readPlan}
+use Rattle.reader.specs.Reading.{read_plan}
 use Rattle.reader.proofs.WellRead.{read_ok}
 use Rattle.reader.specs.declared.Outcome.{Outcome}
 use Rattle.reader.specs.declared.Outcome.TheVariants as outcome
 use Rattle.answer.specs.declared.Answer.{Answer}
 use Rattle.answer.specs.Block.{answer_of}
-use Rattle.promise.specs.Promise.{AnswerTo, ToldOf, Told, verdict, refusalAnswer, TourOf, Planned, none, tour}
+use Rattle.promise.specs.Promise.{AnswerTo, ToldOf, Told, verdict, refusal_answer, TourOf, Planned, none, tour}
 use Rattle.checker.specs.Check as checked
 use Rattle.checker.specs.Check.{CheckOf, RuledOf}
-use Rattle.checker.specs.Block as checkBlock
+use Rattle.checker.specs.Block as check_block
 use Rattle.checker.specs.declared.Check.{Check}
 use Rattle.checker.specs.declared.Check.TheVariants.{Tour}
 use Rattle.checker.proofs.Answering.{own-worth}
@@ -33,8 +33,8 @@ use Rattle.moxiltra.specs.Entries.{Buffers, Promise, Checking}
 use Rattle.moxiltra.proofs.Blocks.{answered, block-exact, check-is}
 
 -- what an answer says that a tour is worth
-abbrev pub worthIn : Answer → Check
-worthIn a = Tour (record { accepts = true; kept = a.kept; cost = a.cost })
+abbrev pub worth_in : Answer → Check
+worth_in a = Tour (record { accepts = true; kept = a.kept; cost = a.cost })
 
 module _ (runin loop runin' loop' : List ℕ) (a : Answer) (zero_number : a.number ≡ 0) (c : Check) where
   abbrev stem : List ℕ
@@ -43,17 +43,17 @@ module _ (runin loop runin' loop' : List ℕ) (a : Answer) (zero_number : a.numb
   abbrev cycle : List ℕ
   cycle = take a.cycle loop'
 
-  refused : (x : Refusal) → a ≡ refusalAnswer x → c ≡ worthIn a
+  refused : (x : Refusal) → a ≡ refusal_answer x → c ≡ worth_in a
   refused x e = absurd (let z : ⊥ = omega (arith, number-some x, ap (λ (a : Answer). a.number) e, zero_number) in z)
 
-  module _ (p : Plan) (ok : WellFormed p) (small : tooLarge p ≡ false) (checked : RuledOf outcome.Plan p stem cycle c) where
-    toured : TourOf p runin loop runin' loop' a → c ≡ worthIn a
+  module _ (p : Plan) (ok : WellFormed p) (small : too_large p ≡ false) (checked : RuledOf outcome.Plan p stem cycle c) where
+    toured : TourOf p runin loop runin' loop' a → c ≡ worth_in a
     toured t =
         own-worth p stem cycle t.kept c ok small
         (subst₂ (IsLasso p) (sym same-stem) (sym same-cycle) t.lasso)
         (subst₂ (Hard p) (sym same-stem) (sym same-cycle) t.hard)
         (subst₂ (λ s l. KeptIs p s l t.kept) (sym same-stem) (sym same-cycle) t.exact) checked
-        ∙ ap worthIn (sym t.answer)
+        ∙ ap worth_in (sym t.answer)
       where
         same-stem : stem ≡ t.stem
         same-stem = ap (λ (a : Answer). take a.stem runin') t.answer ∙ ap (take (length t.stem)) t.stem-text ∙ take-append_seam t.stem (drop (length t.stem) runin)
@@ -61,43 +61,43 @@ module _ (runin loop runin' loop' : List ℕ) (a : Answer) (zero_number : a.numb
         same-cycle : cycle ≡ t.cycle
         same-cycle = ap (λ (a : Answer). take a.cycle loop') t.answer ∙ ap (take (length t.cycle)) t.cycle-text ∙ take-append_seam t.cycle (drop (length t.cycle) loop)
 
-    planned : Planned p runin loop runin' loop' a → c ≡ worthIn a
+    planned : Planned p runin loop runin' loop' a → c ≡ worth_in a
     planned (none n e f g) = refused refusal.NoTour e
     planned (tour t) = toured t
 
-  read : (p : Plan) → WellFormed p → ToldOf outcome.Plan p runin loop runin' loop' a → RuledOf outcome.Plan p stem cycle c → c ≡ worthIn a
+  read : (p : Plan) → WellFormed p → ToldOf outcome.Plan p runin loop runin' loop' a → RuledOf outcome.Plan p stem cycle c → c ≡ worth_in a
   unfolding verdict Told
-  read p ok t checked = by (tooLarge p) refl (roomy p (length runin) (length loop)) refl
+  read p ok t checked = by (too_large p) refl (roomy p (length runin) (length loop)) refl
     where
-      by : (large : Bool) → tooLarge p ≡ large → (room : Bool) → roomy p (length runin) (length loop) ≡ room → c ≡ worthIn a
+      by : (large : Bool) → too_large p ≡ large → (room : Bool) → roomy p (length runin) (length loop) ≡ room → c ≡ worth_in a
       by true e room f = refused refusal.ProductTooLarge (rw e at t).answer
       by false e false f = refused refusal.BufferTooShort (rw (e, f) at t).answer
       by false e true f = planned p ok e checked (rw (e, f) at t)
 
 pub own-tour : (file runin loop runin' loop' : List ℕ) (a : Answer) → AnswerTo file runin loop runin' loop' a → a.number ≡ 0
-    → (c : Check) → CheckOf file (take a.stem runin') (take a.cycle loop') c → c ≡ worthIn a
+    → (c : Check) → CheckOf file (take a.stem runin') (take a.cycle loop') c → c ≡ worth_in a
 unfolding verdict Told
-own-tour file runin loop runin' loop' a t z c k = by (readPlan file).outcome refl
+own-tour file runin loop runin' loop' a t z c k = by (read_plan file).outcome refl
   where
-    by : (o : Outcome) → (readPlan file).outcome ≡ o → c ≡ worthIn a
+    by : (o : Outcome) → (read_plan file).outcome ≡ o → c ≡ worth_in a
     by outcome.Plan e =
-        read runin loop runin' loop' a z c (readPlan file).plan (read_ok file (readPlan file) refl e)
-        (subst (λ o. ToldOf o (readPlan file).plan runin loop runin' loop' a) e t)
-        (subst (λ o. RuledOf o (readPlan file).plan (take a.stem runin') (take a.cycle loop') c) e k)
+        read runin loop runin' loop' a z c (read_plan file).plan (read_ok file (read_plan file) refl e)
+        (subst (λ o. ToldOf o (read_plan file).plan runin loop runin' loop' a) e t)
+        (subst (λ o. RuledOf o (read_plan file).plan (take a.stem runin') (take a.cycle loop') c) e k)
     by (outcome.Refused x) e =
-        refused runin loop runin' loop' a z c x (subst (λ o. ToldOf o (readPlan file).plan runin loop runin' loop' a) e t).answer
+        refused runin loop runin' loop' a z c x (subst (λ o. ToldOf o (read_plan file).plan runin loop runin' loop' a) e t).answer
 
 -- the places that the block of `plan_tour` tells, put to `check_tour` with a block that is long enough
 pub own-checked : (plan : List ℕ) (b b' : Buffers) → 16 ≤ length b.block → Promise plan b b' 0
     → (block block' : List ℕ) (r : ℕ) → 24 ≤ length block
     → Checking plan (take (answer_of (take 16 b'.block)).stem b'.runin) (take (answer_of (take 16 b'.block)).cycle b'.loop) block block' r
-    → (r ≡ 0) × (block' ≡ checkBlock.block_of (worthIn (answer_of (take 16 b'.block))) ++ drop 24 block)
+    → (r ≡ 0) × (block' ≡ check_block.block_of (worth_in (answer_of (take 16 b'.block))) ++ drop 24 block)
 own-checked plan b b' h P block block' r l k =
     let a = answered plan b b' 0 h P in
     let e = block-exact plan b b' 0 h P in
     let x = check-is plan _ _ block block' r l k in
-    let same : x.check ≡ worthIn (answer_of (take 16 b'.block)) =
+    let same : x.check ≡ worth_in (answer_of (take 16 b'.block)) =
     own-tour plan b.runin b.loop b'.runin b'.loop (answer_of (take 16 b'.block))
     (subst (λ (y : Answer). AnswerTo plan b.runin b.loop b'.runin b'.loop y) (sym e) a.told)
     (ap (λ (y : Answer). y.number) e ∙ sym a.returned) x.check x.told in
-    (x.returned ∙ ap checked.number same, x.filled ∙ ap (λ c. checkBlock.block_of c ++ drop 24 block) same)
+    (x.returned ∙ ap checked.number same, x.filled ∙ ap (λ c. check_block.block_of c ++ drop 24 block) same)

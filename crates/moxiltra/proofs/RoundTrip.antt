@@ -10,14 +10,14 @@ use Rattle.answer.specs.Text.{text_of}
 use Rattle.answer.specs.declared.Answer.{Answer}
 use Rattle.promise.specs.Promise.{AnswerTo}
 use Rattle.promise.proofs.Sounds.{told-sound}
-use Rattle.readback.specs.Reading.{readAnswer, runinOf, loop_of}
+use Rattle.readback.specs.Reading.{read_answer, runin_of, loop_of}
 use Rattle.readback.specs.declared.Reply.TheVariants.{Read}
 use Rattle.readback.proofs.ReadsBack.{sound-read, sound-runin, sound-loop}
 
 pub record CameBack (a : Answer) (stem cycle text : List ℕ) (r l : ℕ) : Type 0 where
-  pub record-read : readAnswer text r l
+  pub record-read : read_answer text r l
       ≡ Read (record { number = a.number; line = a.line; cost = a.cost; kept = a.kept; stem = a.stem; cycle = a.cycle })
-  pub runin-read : runinOf text ≡ stem
+  pub runin-read : runin_of text ≡ stem
   pub loop-read : loop_of text ≡ cycle
 
 module _ (plan runin loop runin' loop' : List ℕ) (a : Answer) (t : AnswerTo plan runin loop runin' loop' a) where

@@ -6,7 +6,7 @@
 --   Answered plan b b' r == an answer to the plan file is told, and stands in the first sixteen bytes of the block
 --   Promise plan b b' r  == what `plan_tour` on a plan file and buffers b returns, r, and leaves in the buffers, b': one of the
 --                           two, by the length of the block
---   replyTo text b       == the reply to the text of an answer, beside buffers b
+--   reply_to text b       == the reply to the text of an answer, beside buffers b
 --   Replied text b b' r  == it stands in the first thirty-two bytes of the block, and where the text was read its places stand at the front of
 --                           run-in and loop; no other byte has changed
 --   Reading text b b' r  == what `read_answer` returns and leaves: one of the two, by the length of the block
@@ -20,9 +20,9 @@ use Rattle.answer.specs.declared.Answer.{Answer}
 use Rattle.promise.specs.Promise.{AnswerTo}
 use Rattle.checker.specs.Check as checked
 use Rattle.checker.specs.Check.{CheckOf}
-use Rattle.checker.specs.Block as checkBlock
+use Rattle.checker.specs.Block as check_block
 use Rattle.checker.specs.declared.Check.{Check}
-use Rattle.readback.specs.Reading.{readAnswer, runinOf, loop_of, written}
+use Rattle.readback.specs.Reading.{read_answer, runin_of, loop_of, written}
 use Rattle.readback.specs.Reply as reply
 use Rattle.readback.specs.Block as block
 use Rattle.readback.specs.declared.Reply.{Reply}
@@ -55,14 +55,14 @@ ByBlock n b b' r P = either (ltb (length b.block) n) (TooShort b b' r) P
 unfoldable pub Promise : List ℕ → Buffers → Buffers → ℕ → Type 0
 Promise plan b b' r = ByBlock 16 b b' r (Answered plan b b' r)
 
-abbrev pub replyTo : List ℕ → Buffers → Reply
-replyTo text b = readAnswer text (length b.runin) (length b.loop)
+abbrev pub reply_to : List ℕ → Buffers → Reply
+reply_to text b = read_answer text (length b.runin) (length b.loop)
 
 pub record Replied (text : List ℕ) (b b' : Buffers) (r : ℕ) : Type 0 where
-  pub returned : r ≡ reply.number (replyTo text b)
-  pub block : b'.block ≡ block.block_of (replyTo text b) ++ drop 32 b.block
-  pub runin : b'.runin ≡ written (replyTo text b) (runinOf text) b.runin
-  pub loop : b'.loop ≡ written (replyTo text b) (loop_of text) b.loop
+  pub returned : r ≡ reply.number (reply_to text b)
+  pub block : b'.block ≡ block.block_of (reply_to text b) ++ drop 32 b.block
+  pub runin : b'.runin ≡ written (reply_to text b) (runin_of text) b.runin
+  pub loop : b'.loop ≡ written (reply_to text b) (loop_of text) b.loop
 
 unfoldable pub Reading : List ℕ → Buffers → Buffers → ℕ → Type 0
 Reading text b b' r = ByBlock 32 b b' r (Replied text b b' r)
@@ -71,7 +71,7 @@ pub record Checked (plan runin loop block block' : List ℕ) (r : ℕ) : Type 0 
   pub check : Check
   pub told : CheckOf plan runin loop check
   pub returned : r ≡ checked.number check
-  pub filled : block' ≡ checkBlock.block_of check ++ drop 24 block
+  pub filled : block' ≡ check_block.block_of check ++ drop 24 block
 
 unfoldable pub Checking : List ℕ → List ℕ → List ℕ → List ℕ → List ℕ → ℕ → Type 0
 Checking plan runin loop block block' r =

@@ -11,9 +11,9 @@ use native.Mathlib.Numerals.{add-one}
 use native.Mathlib.Omega.{arith}
 use lib.ListN.{get_or}
 use lib.Pow.{pow_mono}
-use Rattle.base.specs.Below.{sumBelow}
+use Rattle.base.specs.Below.{sum_below}
 use Rattle.base.proofs.Sums.{sum-most}
-use Rattle.plan.specs.Cost.{keeps, costOf}
+use Rattle.plan.specs.Cost.{keeps, cost_of}
 use Rattle.plan.specs.Key.{tie}
 use Rattle.plan.specs.WellFormed.{WellFormed}
 use Rattle.plan.specs.declared.Plan.{Plan}
@@ -22,16 +22,16 @@ use Rattle.plan.proofs.Ties.{tie-lt}
 pub record Summing (weights : List ℕ) (rules kept cost i : ℕ) : Type 0 where
   pub few : rules ≤ 8
   pub upto : i ≤ rules
-  pub sum : cost ≡ costOf weights i kept
+  pub sum : cost ≡ cost_of weights i kept
   pub small : cost ≤ i * 4294967295
 
 pub summing_start : (weights : List ℕ) (rules kept : ℕ) → rules ≤ 8 → Summing weights rules kept 0 0
-unfolding costOf sumBelow
+unfolding cost_of sum_below
 summing_start weights rules kept few = record { few = few; upto = omega arith; sum = refl; small = omega arith }
 
 pub summing-step : (weights : List ℕ) (rules kept cost i amount x : ℕ) → Summing weights rules kept cost i → i < rules
     → amount ≡ get_or weights i 0 → amount < 4294967296 → x ≡ cond (keeps kept i) 0 amount → x ≤ amount → Summing weights rules kept (cost + x) (i + 1)
-unfolding costOf sumBelow
+unfolding cost_of sum_below
 summing-step weights rules kept cost i amount x s h e below is le = record {
   few = s.few;
   upto = omega arith;
@@ -39,10 +39,10 @@ summing-step weights rules kept cost i amount x s h e below is le = record {
   small = omega (arith, s.small);
 }
 
-pub summing-end : (weights : List ℕ) (rules kept cost i : ℕ) → Summing weights rules kept cost i → rules ≤ i → (cost ≡ costOf weights rules kept) × (cost ≤ 34359738368)
+pub summing-end : (weights : List ℕ) (rules kept cost i : ℕ) → Summing weights rules kept cost i → rules ≤ i → (cost ≡ cost_of weights rules kept) × (cost ≤ 34359738368)
 summing-end weights rules kept cost i s h =
     let e : i ≡ rules = omega (arith, s.upto) in
-    (s.sum ∙ ap (λ n. costOf weights n kept) e, omega (arith, s.small, s.few))
+    (s.sum ∙ ap (λ n. cost_of weights n kept) e, omega (arith, s.small, s.few))
 
 pub record Tying (rules kept t i : ℕ) : Type 0 where
   pub few : rules ≤ 8
@@ -70,8 +70,8 @@ charge-le : (b : Bool) (w : ℕ) → cond b 0 w ≤ w
 charge-le true w = omega arith
 charge-le false w = omega arith
 
-pub cost-small : (p : Plan) → WellFormed p → (k : ℕ) → costOf p.weights p.rules k ≤ 32000000
-unfolding costOf
+pub cost-small : (p : Plan) → WellFormed p → (k : ℕ) → cost_of p.weights p.rules k ≤ 32000000
+unfolding cost_of
 cost-small p ok k =
     let most = sum-most p.rules 4000000 (λ i. cond (keeps k i) 0 (get_or p.weights i 0)) (λ i h. le_trans (charge-le (keeps k i) (get_or p.weights i 0)) (ok.heavy i h)) in
     omega (arith, ok.rules)

@@ -12,36 +12,36 @@ use lib.ListN.{get_or}
 use lib.Dec.{eqb, ltb}
 use Rattle.base.proofs.Tests.{any-elim, any-intro, and_left, and_right, or_elim, false-not-true}
 use Rattle.plan.specs.WellFormed.{WellFormed}
-use Rattle.plan.specs.Tour.{roadCount, isRoad, hasRoad, leaves, parks, joins}
+use Rattle.plan.specs.Tour.{road_count, is_road, has_road, leaves, parks, joins}
 use Rattle.plan.specs.declared.Plan.{Plan}
 
 module _ (p : Plan) (u v : ℕ) where
   -- a road from u is a road out of it
-  road-leaves : hasRoad p u v ≡ true → leaves p u ≡ true
+  road-leaves : has_road p u v ≡ true → leaves p u ≡ true
   road-leaves h =
-      let r = any-elim (isRoad p u v) (roadCount p) h in
-      any-intro (λ i. eqb (get_or p.from i 0) u) (roadCount p) r.0 r.1 (and_left _ (eqb (get_or p.to r.0 0) v) r.2)
+      let r = any-elim (is_road p u v) (road_count p) h in
+      any-intro (λ i. eqb (get_or p.from i 0) u) (road_count p) r.0 r.1 (and_left _ (eqb (get_or p.to r.0 0) v) r.2)
 
-  pub left-joins : leaves p u ≡ true → joins p u v ≡ hasRoad p u v
+  pub left-joins : leaves p u ≡ true → joins p u v ≡ has_road p u v
   unfolding joins
   left-joins h = rw (h, and-false, and-false, or-false)
 
   pub parked-joins : parks p u ≡ true → joins p u v ≡ eqb u v
   unfolding joins
-  parked-joins h = by (hasRoad p u v) refl
+  parked-joins h = by (has_road p u v) refl
     where
-      by : (b : Bool) → hasRoad p u v ≡ b → joins p u v ≡ eqb u v
+      by : (b : Bool) → has_road p u v ≡ b → joins p u v ≡ eqb u v
       by true e = absurd (false-not-true (road-leaves e) (not-true (leaves p u) (and_right (ltb u p.places) (not (leaves p u)) h)))
       by false e = rw (e, h, and-true)
 
   module _ (ok : WellFormed p) where
     pub joins-from : joins p u v ≡ true → u < p.places
     unfolding joins
-    joins-from h = or_elim (hasRoad p u v) (eqb u v && parks p u) h road parked
+    joins-from h = or_elim (has_road p u v) (eqb u v && parks p u) h road parked
       where
-        road : hasRoad p u v ≡ true → u < p.places
+        road : has_road p u v ≡ true → u < p.places
         road e =
-            let r = any-elim (isRoad p u v) (roadCount p) e in
+            let r = any-elim (is_road p u v) (road_count p) e in
             omega (arith, ok.from r.0, eqb-true (get_or p.from r.0 0) u (and_left _ _ r.2))
 
         parked : (eqb u v && parks p u) ≡ true → u < p.places
@@ -49,11 +49,11 @@ module _ (p : Plan) (u v : ℕ) where
 
     pub joins-to : joins p u v ≡ true → v < p.places
     unfolding joins
-    joins-to h = or_elim (hasRoad p u v) (eqb u v && parks p u) h road parked
+    joins-to h = or_elim (has_road p u v) (eqb u v && parks p u) h road parked
       where
-        road : hasRoad p u v ≡ true → v < p.places
+        road : has_road p u v ≡ true → v < p.places
         road e =
-            let r = any-elim (isRoad p u v) (roadCount p) e in
+            let r = any-elim (is_road p u v) (road_count p) e in
             omega (arith, ok.to r.0, eqb-true (get_or p.to r.0 0) v (and_right (eqb (get_or p.from r.0 0) u) _ r.2))
 
         parked : (eqb u v && parks p u) ≡ true → v < p.places

@@ -12,24 +12,24 @@ use native.Mathlib.Decide.{dec_lt}
 use native.Mathlib.Omega.{arith}
 use lib.ListN.{get_or}
 use lib.Pow.{pow_mono}
-use Rattle.plan.specs.Cost.{keeps, cost, costOf, Better}
-use Rattle.plan.specs.Key.{tie, key, keyOf}
+use Rattle.plan.specs.Cost.{keeps, cost, cost_of, Better}
+use Rattle.plan.specs.Key.{tie, key, key_of}
 use Rattle.plan.specs.declared.Plan.{Plan}
 use Rattle.base.proofs.Sums.{sum-le}
 use Rattle.plan.proofs.Sums.{kept-ext}
 use Rattle.plan.proofs.Ties.{tie-lt, agree-tie, first-tie, tie-first, Within, cond-mono, tie-mono, tie-strict}
 
 module _ (weights : List ℕ) (n : ℕ) where
-  cost-mono : (k k' : ℕ) → Within n k k' → costOf weights n k' ≤ costOf weights n k
-  unfolding costOf
+  cost-mono : (k k' : ℕ) → Within n k k' → cost_of weights n k' ≤ cost_of weights n k
+  unfolding cost_of
   cost-mono k k' h = sum-le n _ _ (λ i l. cond-mono (keeps k i) (keeps k' i) (get_or weights i 0) (h i l))
 
-  pub key-mono : (k k' : ℕ) → Within n k k' → keyOf weights n k' ≤ keyOf weights n k
-  unfolding keyOf
+  pub key-mono : (k k' : ℕ) → Within n k k' → key_of weights n k' ≤ key_of weights n k
+  unfolding key_of
   key-mono k k' h = omega (arith, cost-mono k k' h, tie-mono n k k' h)
 
-  pub key-strict : (k k' : ℕ) → Within n k k' → (i : ℕ) → i < n → keeps k i ≡ false → keeps k' i ≡ true → keyOf weights n k' < keyOf weights n k
-  unfolding keyOf
+  pub key-strict : (k k' : ℕ) → Within n k k' → (i : ℕ) → i < n → keeps k i ≡ false → keeps k' i ≡ true → key_of weights n k' < key_of weights n k
+  unfolding key_of
   key-strict k k' h i l out into = omega (arith, cost-mono k k' h, tie-strict n k k' h i l out into)
 
 module _ (p : Plan) (few : p.rules ≤ 8) where
@@ -37,12 +37,12 @@ module _ (p : Plan) (few : p.rules ≤ 8) where
   tie-small k = omega (arith, tie-lt p.rules k, pow_mono few)
 
   pub key-injective : (k k' : ℕ) → k < 2 ^ p.rules → k' < 2 ^ p.rules → key p k ≡ key p k' → k ≡ k'
-  unfolding keyOf
+  unfolding key_of
   key-injective k k' small small' e =
       kept-ext p.rules k k' small small' (agree-tie p.rules k k' (omega (arith, tie-small k, tie-small k')))
 
   pub key-better : (k k' : ℕ) → k < 2 ^ p.rules → k' < 2 ^ p.rules → key p k ≤ key p k' → (k ≡ k') ⊎ Better p k k'
-  unfolding keyOf
+  unfolding key_of
   key-better k k' small small' h = by (dec_lt (cost p k) (cost p k')) (dec_lt (tie p.rules k) (tie p.rules k'))
     where
       by : Dec (cost p k < cost p k') → Dec (tie p.rules k < tie p.rules k') → (k ≡ k') ⊎ Better p k k'
@@ -51,7 +51,7 @@ module _ (p : Plan) (few : p.rules ≤ 8) where
       by (no l) (no t) = inl (key-injective k k' small small' (omega (arith, tie-small k, tie-small k')))
 
   pub better-key : (k k' : ℕ) → (k ≡ k') ⊎ Better p k k' → key p k ≤ key p k'
-  unfolding keyOf
+  unfolding key_of
   better-key k k' (inl e) = rw e (omega arith)
   better-key k k' (inr (inl l)) = omega (arith, tie-small k)
   better-key k k' (inr (inr (e, f))) = omega (arith, first-tie p.rules k k' f)

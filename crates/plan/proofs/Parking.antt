@@ -18,8 +18,8 @@ use native.Mathlib.Omega.{arith}
 use borrow.Author.Tests.{le-ltb}
 use lib.ListN.{length}
 use Rattle.base.proofs.Tests.{or_left}
-use Rattle.automata.specs.Acceptance.{lassoAt}
-use Rattle.plan.specs.Tour.{hasRoad, leaves, joins, Begins, IsLasso, Hard, Soft}
+use Rattle.automata.specs.Acceptance.{lasso_at}
+use Rattle.plan.specs.Tour.{has_road, leaves, joins, Begins, IsLasso, Hard, Soft}
 use Rattle.plan.specs.Cost.{keeps, Better, Best}
 use Rattle.plan.specs.declared.Plan.{Plan}
 use Rattle.plan.proofs.Joins.{left-joins}
@@ -29,8 +29,8 @@ Left p = (u : ℕ) → u < p.places → leaves p u ≡ true
 
 pub record RoadTour (p : Plan) (stem cycle : List ℕ) : Type 0 where
   pub filled : 0 < length cycle
-  pub begins : Begins p (lassoAt stem cycle 0)
-  pub roads : (t : ℕ) → t < length stem + length cycle → hasRoad p (lassoAt stem cycle t) (lassoAt stem cycle (suc t)) ≡ true
+  pub begins : Begins p (lasso_at stem cycle 0)
+  pub roads : (t : ℕ) → t < length stem + length cycle → has_road p (lasso_at stem cycle t) (lasso_at stem cycle (suc t)) ≡ true
 
 abbrev pub BestBefore : Plan → ℕ → Type 0
 BestBefore p k =
@@ -40,17 +40,17 @@ BestBefore p k =
 module _ (p : Plan) where
   pub road-tours : (stem cycle : List ℕ) → RoadTour p stem cycle → IsLasso p stem cycle
   unfolding joins
-  road-tours stem cycle t = record { filled = t.filled; begins = t.begins; roads = λ s h. or_left (hasRoad p _ _) _ (t.roads s h) }
+  road-tours stem cycle t = record { filled = t.filled; begins = t.begins; roads = λ s h. or_left (has_road p _ _) _ (t.roads s h) }
 
   pub best-never-worse : (k : ℕ) → Best p k → BestBefore p k
   best-never-worse k best stem cycle tour = best stem cycle (road-tours stem cycle tour)
 
   module _ (left : Left p) where
-    pub joins-as-before : (u v : ℕ) → joins p u v ≡ hasRoad p u v
+    pub joins-as-before : (u v : ℕ) → joins p u v ≡ has_road p u v
     unfolding joins
     joins-as-before u v = by (dec_lt u p.places)
       where
-        by : Dec (u < p.places) → joins p u v ≡ hasRoad p u v
+        by : Dec (u < p.places) → joins p u v ≡ has_road p u v
         by (yes h) = left-joins p u v (left u h)
         by (no h) = rw (le-ltb u p.places (omega arith), and-false, or-false)
 

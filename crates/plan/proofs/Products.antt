@@ -10,7 +10,7 @@ use native.Mathlib.Nat.{mul_assoc, mul-le-mul_left, mul-le-mul_right}
 use lib.ListN.{get_or}
 use lib.Dec.{ltb}
 use borrow.Author.Tests.{ltb-true, ltb-false, lt-ltb, le-ltb}
-use Rattle.base.specs.Below.{productBelow}
+use Rattle.base.specs.Below.{product_below}
 use Rattle.automata.specs.declared.Automaton.{Automaton}
 use Rattle.plan.specs.Size.{size, Sized}
 use Rattle.plan.specs.WellFormed.{soft}
@@ -26,26 +26,26 @@ module _ (M : ℕ) where
       by-test false p = let l : a ≤ M = ltb-false M a p in let e : min a M ≡ a = omega arith in rw e
 
   -- no factor yet
-  pub product-none : (f : ℕ → ℕ) (n : ℕ) → n ≤ M → n ≡ min (n * productBelow 0 f) M
-  unfolding productBelow
+  pub product-none : (f : ℕ → ℕ) (n : ℕ) → n ≤ M → n ≡ min (n * product_below 0 f) M
+  unfolding product_below
   product-none f n h = omega arith
 
   -- one factor more
-  pub product-more : (f : ℕ → ℕ) (n₀ n i q r : ℕ) → n ≡ min (n₀ * productBelow i f) M → q ≡ f i → r ≡ min (n * q) M
-      → r ≡ min (n₀ * productBelow (i + 1) f) M
-  unfolding productBelow
+  pub product-more : (f : ℕ → ℕ) (n₀ n i q r : ℕ) → n ≡ min (n₀ * product_below i f) M → q ≡ f i → r ≡ min (n * q) M
+      → r ≡ min (n₀ * product_below (i + 1) f) M
+  unfolding product_below
   product-more f n₀ n i q r e k h =
-      let x = productBelow i f in
+      let x = product_below i f in
       let step : r ≡ min (n₀ * x * f i) M = h ∙ rw (k, e) (held-mul (n₀ * x) (f i)) in
       step ∙ rw (add-one i, mul_assoc n₀ x (f i))
 
   pub size-whole : (p : Plan) (a n₀ n : ℕ) → a ≡ min (1 * p.places) M → n₀ ≡ min (a * p.hard.states) M
-      → n ≡ min (n₀ * productBelow p.rules (λ i. (soft p i).states + 1)) M → n ≡ min (size p) M
+      → n ≡ min (n₀ * product_below p.rules (λ i. (soft p i).states + 1)) M → n ≡ min (size p) M
   unfolding size
   size-whole p a n₀ n ha h₀ h =
       let e : min (1 * p.places) M ≡ min p.places M = omega arith in
       let k : n₀ ≡ min (p.places * p.hard.states) M = h₀ ∙ rw (ha, e) (held-mul p.places p.hard.states) in
-      h ∙ rw k (held-mul (p.places * p.hard.states) (productBelow p.rules (λ i. (soft p i).states + 1)))
+      h ∙ rw k (held-mul (p.places * p.hard.states) (product_below p.rules (λ i. (soft p i).states + 1)))
 
 pub held-sized : (p : Plan) (n : ℕ) → n ≡ min (size p) 2049 → Sized p (ltb 2048 n) n
 held-sized p n e = by (ltb 2048 n) refl

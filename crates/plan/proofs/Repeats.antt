@@ -15,15 +15,15 @@ use native.Mathlib.Decide.{ℕ_discrete}
 use native.Mathlib.Omega.{arith}
 use lib.ListN.{length, get_or}
 use lib.Dec.{eqb, ltb}
-use Rattle.base.specs.Below.{anyBelow, productBelow}
-use Rattle.automata.specs.Acceptance.{lassoAt, HardAccepts, SoftAccepts}
+use Rattle.base.specs.Below.{any_below, product_below}
+use Rattle.automata.specs.Acceptance.{lasso_at, HardAccepts, SoftAccepts}
 use Rattle.automata.specs.declared.Automaton.{Automaton}
 use Rattle.automata.proofs.Repeats as automata
 use Rattle.automata.proofs.Repeats.{SameMoves, RepeatedMove}
 use Rattle.plan.specs.WellFormed.{soft}
 use Rattle.plan.specs.Size.{size}
 use Rattle.plan.specs.Tour.{joins, IsLasso, word, Hard, Soft}
-use Rattle.plan.specs.Cost.{KeptIs, costOf, cost, First, Better, Best}
+use Rattle.plan.specs.Cost.{KeptIs, cost_of, cost, First, Better, Best}
 use Rattle.plan.specs.declared.Plan.{Plan}
 
 pub record Frame (p q : Plan) : Type 0 where
@@ -60,29 +60,29 @@ module _ (p q : Plan) (a : Alike p q) where
   unfolding joins
   same-joins u v =
       let f = a.frame in
-      λ i. anyBelow (min (f.roads i) 1024) (λ k. eqb (get_or (f.from i) k 0) u && eqb (get_or (f.to i) k 0) v)
-      || (eqb u v && (ltb u (f.places i) && not (anyBelow (min (f.roads i) 1024) (λ k. eqb (get_or (f.from i) k 0) u))))
+      λ i. any_below (min (f.roads i) 1024) (λ k. eqb (get_or (f.from i) k 0) u && eqb (get_or (f.to i) k 0) v)
+      || (eqb u v && (ltb u (f.places i) && not (any_below (min (f.roads i) 1024) (λ k. eqb (get_or (f.from i) k 0) u))))
 
   same-costs : (k : ℕ) → cost p k ≡ cost q k
-  same-costs k = λ i. costOf (a.frame.weights i) (a.frame.rules i) k
+  same-costs k = λ i. cost_of (a.frame.weights i) (a.frame.rules i) k
 
   same-better : (k k' : ℕ) → Better p k k' ≡ Better q k k'
   same-better k k' = λ i. (same-costs k i < same-costs k' i) ⊎ ((same-costs k i ≡ same-costs k' i) × First (a.frame.rules i) k k')
 
   same_size : size p ≡ size q
   unfolding size
-  same_size = λ i. a.frame.places i * a.hard.states i * productBelow (a.frame.rules i) (λ j. (a.softs j).states i + 1)
+  same_size = λ i. a.frame.places i * a.hard.states i * product_below (a.frame.rules i) (λ j. (a.softs j).states i + 1)
 
   module _ (stem cycle : List ℕ) where
     same-hard : Hard p stem cycle ≡ Hard q stem cycle
     same-hard =
         automata.alike-hard p.hard q.hard (automata.same_alike _ _ a.hard) (word p stem cycle) (length stem) (length cycle)
-        ∙ λ i. HardAccepts q.hard (λ t. get_or (a.frame.labels i) (lassoAt stem cycle t) 0) (length stem) (length cycle)
+        ∙ λ i. HardAccepts q.hard (λ t. get_or (a.frame.labels i) (lasso_at stem cycle t) 0) (length stem) (length cycle)
 
     same-soft : (i : ℕ) → Soft p stem cycle i ≡ Soft q stem cycle i
     same-soft i =
         automata.alike-soft (soft p i) (soft q i) (automata.same_alike _ _ (a.softs i)) (word p stem cycle) (length stem) (length cycle)
-        ∙ λ j. SoftAccepts (soft q i) (λ t. get_or (a.frame.labels j) (lassoAt stem cycle t) 0) (length stem) (length cycle)
+        ∙ λ j. SoftAccepts (soft q i) (λ t. get_or (a.frame.labels j) (lasso_at stem cycle t) 0) (length stem) (length cycle)
 
     to-tour : IsLasso p stem cycle → IsLasso q stem cycle
     to-tour l = record { filled = l.filled; begins = l.begins ∙ a.frame.start; roads = λ t h. sym (same-joins _ _) ∙ l.roads t h }

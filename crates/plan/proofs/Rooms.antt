@@ -8,14 +8,14 @@ use native.Mathlib.Nat.{mul-le-mul_right}
 use native.Mathlib.Omega.{arith}
 use borrow.Author.Tests.{le-leb}
 use Rattle.plan.specs.WellFormed.{WellFormed}
-use Rattle.plan.specs.Size.{size, loopRoom, roomy}
+use Rattle.plan.specs.Size.{size, loop_room, roomy}
 use Rattle.plan.specs.declared.Plan.{Plan}
 
 module _ (p : Plan) (ok : WellFormed p) (small : size p ≤ 2048) where
-  pub loop-small : loopRoom p ≤ 20480
+  pub loop-small : loop_room p ≤ 20480
   loop-small =
       let most : p.rules + 2 ≤ 10 = omega (arith, ok.rules) in
       omega (arith, mul-le-mul_right (size p) most)
 
   pub roomy-enough : roomy p 2048 20480 ≡ true
-  roomy-enough = rw (le-leb (size p) 2048 small, le-leb (loopRoom p) 20480 loop-small)
+  roomy-enough = rw (le-leb (size p) 2048 small, le-leb (loop_room p) 20480 loop-small)

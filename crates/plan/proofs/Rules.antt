@@ -6,19 +6,19 @@ use Prim.Native.Nat.{ℕ, zero, suc, ◌≤◌, ◌<◌}
 use native.Mathlib.Omega.{arith}
 use lib.ListN.{get_or}
 use Rattle.automata.specs.declared.Automaton.{Automaton}
-use Rattle.automata.specs.WellFormed.{noAutomaton, pastEnd}
+use Rattle.automata.specs.WellFormed.{no_automaton, past_end}
 use Rattle.plan.specs.declared.Plan.{Plan}
 use Rattle.plan.specs.WellFormed.{soft, WellFormed}
 
-pub rule-number : (f : Automaton → ℕ) (d : Automaton) → f pastEnd ≡ f d → (l : List Automaton) (k : ℕ) → f (get_or l k pastEnd) ≡ f (get_or l k d)
+pub rule-number : (f : Automaton → ℕ) (d : Automaton) → f past_end ≡ f d → (l : List Automaton) (k : ℕ) → f (get_or l k past_end) ≡ f (get_or l k d)
 rule-number f d h [] k = h
 rule-number f d h (a ∷ l) zero = refl
 rule-number f d h (a ∷ l) (suc k) = rule-number f d h l k
 
-same-rule : (d : Automaton) → d.states ≡ 0 → (l : List Automaton) (k : ℕ) → 1 ≤ (get_or l k d).states → get_or l k pastEnd ≡ get_or l k d
+same-rule : (d : Automaton) → d.states ≡ 0 → (l : List Automaton) (k : ℕ) → 1 ≤ (get_or l k d).states → get_or l k past_end ≡ get_or l k d
 same-rule d z [] k h = absurd (omega arith)
 same-rule d z (a ∷ l) zero h = refl
 same-rule d z (a ∷ l) (suc k) h = same-rule d z l k h
 
-pub rule-read : (p : Plan) → WellFormed p → (k : ℕ) → k < p.rules → get_or p.soft k pastEnd ≡ soft p k
-rule-read p w k h = same-rule noAutomaton refl p.soft k (w.softs k h).some
+pub rule-read : (p : Plan) → WellFormed p → (k : ℕ) → k < p.rules → get_or p.soft k past_end ≡ soft p k
+rule-read p w k h = same-rule no_automaton refl p.soft k (w.softs k h).some

@@ -7,19 +7,19 @@ use Prim.Native.Nat.{ℕ, zero, suc, ◌+◌, ◌^◌, ◌≤◌, ◌<◌}
 use native.Mathlib.Decide.{dec_lt, ℕ_discrete}
 use native.Mathlib.Omega.{arith}
 use borrow.Author.Tests.{eqb-true, eq-eqb}
-use Rattle.base.specs.Below.{sumBelow}
+use Rattle.base.specs.Below.{sum_below}
 use Rattle.base.specs.Bits.{bit}
 use Rattle.base.proofs.Sums.{sum-le}
 use Rattle.base.proofs.Bits.{bit-lt, bit-ext, bit_high}
 use Rattle.plan.specs.Cost.{keeps}
 
-pub sum-change : (n u : ℕ) (f g : ℕ → ℕ) → u < n → ((i : ℕ) → (i ≡ u → ⊥) → g i ≡ f i) → sumBelow n g + f u ≡ sumBelow n f + g u
-unfolding sumBelow
+pub sum-change : (n u : ℕ) (f g : ℕ → ℕ) → u < n → ((i : ℕ) → (i ≡ u → ⊥) → g i ≡ f i) → sum_below n g + f u ≡ sum_below n f + g u
+unfolding sum_below
 sum-change zero u f g h same = absurd (omega arith)
 sum-change (suc n) u f g h same = by (ℕ_discrete u n) (sum-change n u f g)
   where
-    by : Dec (u ≡ n) → (u < n → ((i : ℕ) → (i ≡ u → ⊥) → g i ≡ f i) → sumBelow n g + f u ≡ sumBelow n f + g u)
-        → sumBelow n g + g n + f u ≡ sumBelow n f + f n + g u
+    by : Dec (u ≡ n) → (u < n → ((i : ℕ) → (i ≡ u → ⊥) → g i ≡ f i) → sum_below n g + f u ≡ sum_below n f + g u)
+        → sum_below n g + g n + f u ≡ sum_below n f + f n + g u
     by (yes e) ih =
         let le = sum-le n f g (λ i l. omega (arith, same i (λ q. omega arith))) in
         let ge = sum-le n g f (λ i l. omega (arith, same i (λ q. omega arith))) in

@@ -16,53 +16,53 @@ use lib.ListN.{length, get_or}
 use borrow.Author.Tests.{eqb-true}
 use Rattle.text.specs.List.{under}
 use Rattle.text.proofs.Lists.{under-intro}
-use Rattle.automata.specs.Acceptance.{lassoAt}
+use Rattle.automata.specs.Acceptance.{lasso_at}
 use Rattle.automata.proofs.Lassos.{lasso-stem, lasso-cycle, lasso-period}
 use Rattle.plan.specs.WellFormed.{WellFormed}
-use Rattle.plan.specs.Tour.{IsLasso, Hard, hasRoad, leaves, parks}
+use Rattle.plan.specs.Tour.{IsLasso, Hard, has_road, leaves, parks}
 use Rattle.plan.specs.Cost.{KeptIs, Better, Best}
 use Rattle.plan.specs.declared.Plan.{Plan}
 use Rattle.plan.proofs.Joins.{left-joins, parked-joins, joins-from}
 
-loop-at : (stem cycle : List ℕ) (i : ℕ) → i < length cycle → lassoAt stem cycle (length stem + i) ≡ get_or cycle i 0
+loop-at : (stem cycle : List ℕ) (i : ℕ) → i < length cycle → lasso_at stem cycle (length stem + i) ≡ get_or cycle i 0
 loop-at stem cycle i h = lasso-cycle stem cycle (length stem + i) (omega arith) ∙ rw (add-sub_cancel_left, mod-eq_of_lt h)
 
 module _ (p : Plan) where
   pub best-kept : (k : ℕ) → Best p k → (stem cycle : List ℕ) → IsLasso p stem cycle → Hard p stem cycle → (k' : ℕ) → KeptIs p stem cycle k' → (k ≡ k') ⊎ Better p k k'
   best-kept k best stem cycle lasso hard k' kept = best stem cycle lasso hard k' kept.small kept.accepted
 
-  pub lone-place : (stem : List ℕ) (v : ℕ) → leaves p v ≡ true → IsLasso p stem (v ∷ []) → hasRoad p v v ≡ true
+  pub lone-place : (stem : List ℕ) (v : ℕ) → leaves p v ≡ true → IsLasso p stem (v ∷ []) → has_road p v v ≡ true
   lone-place stem v left lasso =
       sym (left-joins p v v left) ∙ rw (at (length stem) (omega arith), at (suc (length stem)) (omega arith)) at (lasso.roads (length stem) (omega arith))
     where
-      at : (t : ℕ) → length stem ≤ t → lassoAt stem (v ∷ []) t ≡ v
+      at : (t : ℕ) → length stem ≤ t → lasso_at stem (v ∷ []) t ≡ v
       at t h = let e : (t - length stem) % 1 ≡ 0 = omega arith in lasso-cycle stem (v ∷ []) t h ∙ ap (λ i. get_or (v ∷ []) i 0) e
 
   module _ (v : ℕ) (parked : parks p v ≡ true) (stem cycle : List ℕ) (lasso : IsLasso p stem cycle) where
-    stays : (t : ℕ) → t < length stem + length cycle → lassoAt stem cycle t ≡ v → lassoAt stem cycle (suc t) ≡ v
-    stays t h e = sym (eqb-true v _ (sym (parked-joins p v (lassoAt stem cycle (suc t)) parked) ∙ rw e at (lasso.roads t h)))
+    stays : (t : ℕ) → t < length stem + length cycle → lasso_at stem cycle t ≡ v → lasso_at stem cycle (suc t) ≡ v
+    stays t h e = sym (eqb-true v _ (sym (parked-joins p v (lasso_at stem cycle (suc t)) parked) ∙ rw e at (lasso.roads t h)))
 
-    from-there : (t : ℕ) → lassoAt stem cycle t ≡ v → (k : ℕ) → t + k ≤ length stem + length cycle → lassoAt stem cycle (t + k) ≡ v
+    from-there : (t : ℕ) → lasso_at stem cycle t ≡ v → (k : ℕ) → t + k ≤ length stem + length cycle → lasso_at stem cycle (t + k) ≡ v
     from-there t e zero h = let z : t + 0 ≡ t = omega arith in rw z e
     from-there t e (suc k) h = let z : t + suc k ≡ suc (t + k) = omega arith in rw z (stays (t + k) (omega arith) (from-there t e k (omega arith)))
 
-    pub parked-stem : lassoAt stem cycle 0 ≡ v → (i : ℕ) → i < length stem → get_or stem i 0 ≡ v
+    pub parked-stem : lasso_at stem cycle 0 ≡ v → (i : ℕ) → i < length stem → get_or stem i 0 ≡ v
     parked-stem e i l = let z : 0 + i ≡ i = omega arith in sym (lasso-stem stem cycle i l) ∙ rw z at (from-there 0 e i (omega arith))
 
-    pub parked-loop : (t : ℕ) → t < length stem + length cycle → lassoAt stem cycle t ≡ v → (i : ℕ) → i < length cycle → get_or cycle i 0 ≡ v
+    pub parked-loop : (t : ℕ) → t < length stem + length cycle → lasso_at stem cycle t ≡ v → (i : ℕ) → i < length cycle → get_or cycle i 0 ≡ v
     parked-loop t h e i l =
         let r : ℕ = length stem in
         let whole : ℕ = length stem + length cycle in
         let there : t + (whole - t) ≡ r + length cycle = omega arith in
-        let last : lassoAt stem cycle (r + length cycle) ≡ v = rw there at (from-there t e (whole - t) (omega arith)) in
-        let first : lassoAt stem cycle r ≡ v = sym (lasso-period stem cycle r (omega arith)) ∙ last in
+        let last : lasso_at stem cycle (r + length cycle) ≡ v = rw there at (from-there t e (whole - t) (omega arith)) in
+        let first : lasso_at stem cycle r ≡ v = sym (lasso-period stem cycle r (omega arith)) ∙ last in
         sym (loop-at stem cycle i l) ∙ from-there r first i (omega arith)
 
 -- every place of a tour is joined to the next, and what is joined are places of the plan
 module _ (p : Plan) (ok : WellFormed p) where
   module _ (stem cycle : List ℕ) (lasso : IsLasso p stem cycle) where
-    step-under : (t : ℕ) → t < length stem + length cycle → lassoAt stem cycle t < p.places
-    step-under t h = joins-from p (lassoAt stem cycle t) (lassoAt stem cycle (suc t)) ok (lasso.roads t h)
+    step-under : (t : ℕ) → t < length stem + length cycle → lasso_at stem cycle t < p.places
+    step-under t h = joins-from p (lasso_at stem cycle t) (lasso_at stem cycle (suc t)) ok (lasso.roads t h)
 
     pub stem-under : under p.places stem ≡ true
     stem-under = under-intro p.places stem (λ i h. rw (lasso-stem stem cycle i h) at (step-under i (omega arith)))

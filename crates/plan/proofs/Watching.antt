@@ -17,14 +17,14 @@ use native.Mathlib.Omega.{arith}
 use lib.ListN.{length, set}
 use lib.Seq.{get_or-set_other}
 use borrow.Author.Tests.{eqb-true}
-use Rattle.base.specs.Below.{sumBelow}
+use Rattle.base.specs.Below.{sum_below}
 use Rattle.base.specs.Bits.{bit}
 use Rattle.base.proofs.Bits.{bit_high}
 use Rattle.automata.specs.Acceptance.{SoftAccepts}
-use Rattle.automata.specs.WellFormed.{noAutomaton}
+use Rattle.automata.specs.WellFormed.{no_automaton}
 use Rattle.plan.specs.WellFormed.{soft, weight}
 use Rattle.plan.specs.Tour.{joins, word, IsLasso, Soft}
-use Rattle.plan.specs.Cost.{keeps, cost, costOf, First, Better, Best}
+use Rattle.plan.specs.Cost.{keeps, cost, cost_of, First, Better, Best}
 use Rattle.plan.specs.declared.Plan.{Plan}
 use Rattle.base.proofs.Sums.{sum-le}
 use Rattle.plan.proofs.Sums.{kept-ext}
@@ -47,7 +47,7 @@ apart-sym p k k' a i l = back (a i l)
     back (inr z) = inr z
 
 no-dearer : (p : Plan) (k k' : ℕ) → Apart p k k' → cost p k ≤ cost p k'
-unfolding costOf
+unfolding cost_of
 no-dearer p k k' a = sum-le p.rules _ _ (λ i l. charge-le (keeps k i) (keeps k' i) (weight p i) (a i l))
 
 pub watched-cost : (p : Plan) (k k' : ℕ) → Apart p k k' → cost p k ≡ cost p k'
@@ -67,7 +67,7 @@ without p n = record {
   from = p.from;
   to = p.to;
   hard = p.hard;
-  soft = set p.soft n noAutomaton;
+  soft = set p.soft n no_automaton;
   weights = set p.weights n 0;
 }
 
@@ -86,7 +86,7 @@ module _ (p : Plan) (n : ℕ) (last : p.rules ≡ suc n) (watches : weight p n �
   none false = watches
 
   pub last-cost : (k k₀ : ℕ) → Agree n k₀ k → cost q k₀ ≡ cost p k
-  unfolding costOf sumBelow
+  unfolding cost_of sum_below
   last-cost k k₀ agree =
       rw last
       (omega (
@@ -102,7 +102,7 @@ module _ (p : Plan) (n : ℕ) (last : p.rules ≡ suc n) (watches : weight p n �
 
   to-soft : (stem cycle : List ℕ) (i : ℕ) → i < n → Soft q stem cycle i → Soft p stem cycle i
   to-soft stem cycle i l =
-      subst (λ a. SoftAccepts a (word p stem cycle) (length stem) (length cycle)) (get_or-set_other p.soft n i noAutomaton noAutomaton (λ e. omega arith))
+      subst (λ a. SoftAccepts a (word p stem cycle) (length stem) (length cycle)) (get_or-set_other p.soft n i no_automaton no_automaton (λ e. omega arith))
 
   pub last-best : (k k₀ : ℕ) → k₀ < 2 ^ n → Agree n k₀ k → Best p k → Best q k₀
   last-best k k₀ small₀ agree best stem cycle tour hard k' small accepted =

@@ -1,26 +1,26 @@
 -- The number N of 01: how many tuples of a place, a state of the hard rule and a state, or the trap, of each soft rule.
 --   size p           == N
---   tooLarge p       == N is above 2,048, the most that is planned in
+--   too_large p       == N is above 2,048, the most that is planned in
 --   Sized p large n  == large tells whether it is, and n is N if not
---   loopRoom p       == how many bytes of loop the planner asks for
+--   loop_room p       == how many bytes of loop the planner asks for
 --   roomy p r l      == a run-in buffer of r bytes and a loop buffer of l are long enough
 use Rattle.std.specs.Prelude.{◌≡◌, Bool, ◌&&◌, ℕ, ◌+◌, ◌*◌, ◌≤◌, leb, ltb}
-use Rattle.base.specs.Below.{productBelow}
+use Rattle.base.specs.Below.{product_below}
 use Rattle.plan.specs.WellFormed.{soft}
 use Rattle.plan.specs.declared.Plan.{Plan}
 
 unfoldable pub size : Plan → ℕ
-size p = p.places * p.hard.states * productBelow p.rules (λ i. (soft p i).states + 1)
+size p = p.places * p.hard.states * product_below p.rules (λ i. (soft p i).states + 1)
 
-abbrev pub tooLarge : Plan → Bool
-tooLarge p = ltb 2048 (size p)
+abbrev pub too_large : Plan → Bool
+too_large p = ltb 2048 (size p)
 
 pub record Sized (p : Plan) (large : Bool) (n : ℕ) : Type 0 where
-  pub judged : large ≡ tooLarge p
+  pub judged : large ≡ too_large p
   pub nodes : size p ≤ 2048 → n ≡ size p
 
-abbrev pub loopRoom : Plan → ℕ
-loopRoom p = (p.rules + 2) * size p
+abbrev pub loop_room : Plan → ℕ
+loop_room p = (p.rules + 2) * size p
 
 abbrev pub roomy : Plan → ℕ → ℕ → Bool
-roomy p runin loop = leb (size p) runin && leb (loopRoom p) loop
+roomy p runin loop = leb (size p) runin && leb (loop_room p) loop

@@ -1,6 +1,6 @@
 -- The tours of a plan and the rules that accept them (01, "Tours and what they keep"; 02, note 7).
 --   label p v             == the label of place v
---   hasRoad p u v         == a road of p leads from place u to place v
+--   has_road p u v         == a road of p leads from place u to place v
 --   leaves p u            == a road of p leads out of place u
 --   parks p u             == u is a place of p, and no road leads out of it
 --   joins p u v           == place u leads to place v: by a road, or u parks and v is u
@@ -10,8 +10,8 @@
 --   Hard p stem cycle     == the hard rule accepts the tour
 --   Soft p stem cycle i   == soft rule i + 1 accepts the tour
 use Rattle.std.specs.Prelude.{◌≡◌, Bool, true, not, ◌&&◌, ◌||◌, List, ℕ, suc, ◌+◌, ◌<◌, min, length, get_or, eqb, ltb}
-use Rattle.base.specs.Below.{anyBelow}
-use Rattle.automata.specs.Acceptance.{lassoAt, HardAccepts, SoftAccepts}
+use Rattle.base.specs.Below.{any_below}
+use Rattle.automata.specs.Acceptance.{lasso_at, HardAccepts, SoftAccepts}
 use Rattle.plan.specs.WellFormed.{soft}
 use Rattle.plan.specs.declared.Plan.{Plan}
 
@@ -19,23 +19,23 @@ abbrev pub label : Plan → ℕ → ℕ
 label p v = get_or p.labels v 0
 
 -- the arrays have room for 1,024
-abbrev pub roadCount : Plan → ℕ
-roadCount p = min p.roads 1024
+abbrev pub road_count : Plan → ℕ
+road_count p = min p.roads 1024
 
-abbrev pub isRoad : Plan → ℕ → ℕ → ℕ → Bool
-isRoad p u v i = eqb (get_or p.from i 0) u && eqb (get_or p.to i 0) v
+abbrev pub is_road : Plan → ℕ → ℕ → ℕ → Bool
+is_road p u v i = eqb (get_or p.from i 0) u && eqb (get_or p.to i 0) v
 
-abbrev pub hasRoad : Plan → ℕ → ℕ → Bool
-hasRoad p u v = anyBelow (roadCount p) (isRoad p u v)
+abbrev pub has_road : Plan → ℕ → ℕ → Bool
+has_road p u v = any_below (road_count p) (is_road p u v)
 
 abbrev pub leaves : Plan → ℕ → Bool
-leaves p u = anyBelow (roadCount p) (λ i. eqb (get_or p.from i 0) u)
+leaves p u = any_below (road_count p) (λ i. eqb (get_or p.from i 0) u)
 
 abbrev pub parks : Plan → ℕ → Bool
 parks p u = ltb u p.places && not (leaves p u)
 
 unfoldable pub joins : Plan → ℕ → ℕ → Bool
-joins p u v = hasRoad p u v || (eqb u v && parks p u)
+joins p u v = has_road p u v || (eqb u v && parks p u)
 
 abbrev pub Begins : Plan → ℕ → Type 0
 Begins p v = v ≡ p.start
@@ -43,11 +43,11 @@ Begins p v = v ≡ p.start
 -- The last of these steps, from the last place of the loop, is the one that closes it.
 pub record IsLasso (p : Plan) (stem cycle : List ℕ) : Type 0 where
   pub filled : 0 < length cycle
-  pub begins : Begins p (lassoAt stem cycle 0)
-  pub roads : (t : ℕ) → t < length stem + length cycle → joins p (lassoAt stem cycle t) (lassoAt stem cycle (suc t)) ≡ true
+  pub begins : Begins p (lasso_at stem cycle 0)
+  pub roads : (t : ℕ) → t < length stem + length cycle → joins p (lasso_at stem cycle t) (lasso_at stem cycle (suc t)) ≡ true
 
 abbrev pub word : Plan → List ℕ → List ℕ → ℕ → ℕ
-word p stem cycle t = label p (lassoAt stem cycle t)
+word p stem cycle t = label p (lasso_at stem cycle t)
 
 abbrev pub Hard : Plan → List ℕ → List ℕ → Type 0
 Hard p stem cycle = HardAccepts p.hard (word p stem cycle) (length stem) (length cycle)

@@ -1,22 +1,22 @@
 -- What the plan file's ranges say of a plan (01, "The plan file").
 --   soft p i     == the automaton of soft rule i + 1
 --   weight p i   == its weight
---   noPlan       == no places, no roads and no rules
+--   no_plan       == no places, no roads and no rules
 --   WellFormed p == every number of p is in its range, the counts are within the arrays, and nothing stands beyond them
 use Rattle.std.specs.Prelude.{◌≡◌, ℕ, ◌^◌, ◌≤◌, ◌<◌, get_or, replicate}
 use Rattle.automata.specs.declared.Automaton.{Automaton}
 use Rattle.automata.specs.WellFormed as automaton
-use Rattle.automata.specs.WellFormed.{Below, ZeroFrom, noAutomaton}
+use Rattle.automata.specs.WellFormed.{Below, ZeroFrom, no_automaton}
 use Rattle.plan.specs.declared.Plan.{Plan}
 
 abbrev pub soft : Plan → ℕ → Automaton
-soft p i = get_or p.soft i noAutomaton
+soft p i = get_or p.soft i no_automaton
 
 abbrev pub weight : Plan → ℕ → ℕ
 weight p i = get_or p.weights i 0
 
-abbrev pub noPlan : Plan
-noPlan = record {
+abbrev pub no_plan : Plan
+no_plan = record {
   marks = 0;
   places = 0;
   start = 0;
@@ -25,8 +25,8 @@ noPlan = record {
   labels = replicate 128 0;
   from = replicate 1024 0;
   to = replicate 1024 0;
-  hard = noAutomaton;
-  soft = replicate 8 noAutomaton;
+  hard = no_automaton;
+  soft = replicate 8 no_automaton;
   weights = replicate 8 0;
 }
 
@@ -46,5 +46,5 @@ pub record WellFormed (p : Plan) : Type 0 where
   pub rest-labels : ZeroFrom p.places p.labels
   pub rest_from : ZeroFrom p.roads p.from
   pub rest-to : ZeroFrom p.roads p.to
-  pub rest-softs : (i : ℕ) → p.rules ≤ i → soft p i ≡ noAutomaton
+  pub rest-softs : (i : ℕ) → p.rules ≤ i → soft p i ≡ no_automaton
   pub rest-weights : ZeroFrom p.rules p.weights

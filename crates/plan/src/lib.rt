@@ -4,8 +4,8 @@ pub mod size;
 
 ghost use Rattle.std.specs.Prelude.{◌≡◌, cond, ◌≤◌, ◌<◌};
 ghost use Rattle.base.specs.Bits.{bit};
-ghost use Rattle.plan.specs.Cost.{keeps, costOf};
-ghost use Rattle.plan.specs.Key.{tie, keyOf};
+ghost use Rattle.plan.specs.Cost.{keeps, cost_of};
+ghost use Rattle.plan.specs.Key.{tie, key_of};
 ghost use Rattle.plan.specs.Refusal.{number, line_of, index_of};
 
 use automata::Automaton;
@@ -112,7 +112,7 @@ fn left_out(kept: u64, i: u64, amount: u64) -> u64
 // What the first `rules` rules cost that are not kept.
 pub fn cost_of(weights: &[u32; 8], rules: usize, kept: u64) -> u64
     requires { rules ≤ 8 }
-    ensures { (result ≡ costOf weights.now rules kept) × (result ≤ 34359738368) }
+    ensures { (result ≡ cost_of weights.now rules kept) × (result ≤ 34359738368) }
 {
     let mut cost: u64 = 0;
     let mut i = 0;
@@ -140,7 +140,7 @@ fn tie_of(rules: usize, kept: u64) -> u64
 // The key of a kept byte: the smaller, the better.
 pub fn key_of(weights: &[u32; 8], rules: usize, kept: u64) -> u64
     requires { rules ≤ 8 }
-    ensures { result ≡ keyOf weights.now rules kept }
+    ensures { result ≡ key_of weights.now rules kept }
 {
     cost_of(weights, rules, kept) * 256 + tie_of(rules, kept)
 }

@@ -11,7 +11,7 @@ use lib.ListN.{length}
 use borrow.Author.Tests.{ltb-false}
 use lib.Pow.{pow_mono}
 use Rattle.plan.specs.WellFormed.{WellFormed}
-use Rattle.plan.specs.Size.{size, tooLarge, roomy}
+use Rattle.plan.specs.Size.{size, too_large, roomy}
 use Rattle.plan.specs.Cost.{Counted, none as no_more, one, skip}
 use Rattle.plan.specs.Refusal as refused
 use Rattle.plan.specs.declared.Plan.{Plan}
@@ -19,14 +19,14 @@ use Rattle.plan.specs.declared.Refusal.{Refusal}
 use Rattle.plan.specs.declared.Refusal.TheVariants as refusal
 use Rattle.plan.proofs.Rooms.{loop-small, roomy-enough}
 use Rattle.reader.specs.Outcome.{number, line_of}
-use Rattle.reader.specs.Reading.{readPlan}
+use Rattle.reader.specs.Reading.{read_plan}
 use Rattle.reader.specs.declared.Outcome.{Outcome}
 use Rattle.reader.specs.declared.Outcome.TheVariants as outcome
 use Rattle.reader.proofs.Answers.{Early, read-early}
 use Rattle.reader.proofs.WellRead.{read-well}
 use Rattle.answer.specs.Block.{Narrow}
 use Rattle.answer.specs.declared.Answer.{Answer}
-use Rattle.promise.specs.Promise.{verdict, refuse, go, refusalAnswer, TourOf, Planned, none, tour, Told, ToldOf, AnswerTo}
+use Rattle.promise.specs.Promise.{verdict, refuse, go, refusal_answer, TourOf, Planned, none, tour, Told, ToldOf, AnswerTo}
 use Rattle.plan.proofs.Charging.{cost-small}
 
 counted-le : {P : ℕ → Type 0} {n c : ℕ} → Counted P n c → c ≤ n
@@ -34,7 +34,7 @@ counted-le no_more = omega arith
 counted-le (one e k) = omega (arith, counted-le k)
 counted-le (skip e k) = omega (arith, counted-le k)
 
-refusal-narrow : (x : Refusal) (a : Answer) → a ≡ refusalAnswer x → refused.number x ≤ 10 → refused.line_of x ≤ 60001 → Narrow a
+refusal-narrow : (x : Refusal) (a : Answer) → a ≡ refusal_answer x → refused.number x ≤ 10 → refused.line_of x ≤ 60001 → Narrow a
 refusal-narrow x a e h l = rw e (record { number = omega arith; line = omega arith; cost = omega arith; kept = omega arith; count = omega arith; stem = omega arith; cycle = omega arith })
 
 module _ (p : Plan) {runin loop runin' loop' : List ℕ} {a : Answer} where
@@ -63,9 +63,9 @@ module _ (runin loop runin' loop' : List ℕ) (a : Answer) where
       → ToldOf o p runin loop runin' loop' a → Narrow a
   unfolding verdict Told
   verdict-narrow (outcome.Refused x) p among line ok t = refusal-narrow x a t.answer among.low line
-  verdict-narrow outcome.Plan p among line ok t = by (tooLarge p) (roomy p (length runin) (length loop)) refl t
+  verdict-narrow outcome.Plan p among line ok t = by (too_large p) (roomy p (length runin) (length loop)) refl t
     where
-      by : (large room : Bool) → tooLarge p ≡ large
+      by : (large room : Bool) → too_large p ≡ large
           → Told (cond large (refuse refusal.ProductTooLarge) (cond room (go p) (refuse refusal.BufferTooShort))) runin loop runin' loop' a → Narrow a
       by true room e t = refusal-narrow refusal.ProductTooLarge a t.answer (omega arith) (omega arith)
       by false true e t = planned-narrow p (ok refl) (ltb-false 2048 (size p) e) t
@@ -75,9 +75,9 @@ module _ (runin loop runin' loop' : List ℕ) (a : Answer) where
       → ToldOf o p runin loop runin' loop' a → a.number ≢ 5
   unfolding verdict Told
   verdict-number (outcome.Refused x) p among room t f = among.none 5 (omega arith) (omega arith) (omega (arith, ap (λ y. y.number) t.answer))
-  verdict-number outcome.Plan p among room t f = by (tooLarge p) refl t
+  verdict-number outcome.Plan p among room t f = by (too_large p) refl t
     where
-      by : (large : Bool) → tooLarge p ≡ large → Told (cond large (refuse refusal.ProductTooLarge)
+      by : (large : Bool) → too_large p ≡ large → Told (cond large (refuse refusal.ProductTooLarge)
           (cond (roomy p (length runin) (length loop)) (go p) (refuse refusal.BufferTooShort))) runin loop runin' loop' a → ⊥
       by true e t = omega (arith, ap (λ y. y.number) t.answer)
       by false e t = planned-number p (rw (room refl (ltb-false 2048 (size p) e)) at t) f
@@ -85,9 +85,9 @@ module _ (runin loop runin' loop' : List ℕ) (a : Answer) where
 module _ (plan runin loop runin' loop' : List ℕ) (a : Answer) (t : AnswerTo plan runin loop runin' loop' a) where
   pub told-narrow : Narrow a
   told-narrow =
-      verdict-narrow runin loop runin' loop' a (readPlan plan).outcome (readPlan plan).plan (read-early plan).0 (read-early plan).1 (read-well plan) t
+      verdict-narrow runin loop runin' loop' a (read_plan plan).outcome (read_plan plan).plan (read-early plan).0 (read-early plan).1 (read-well plan) t
 
   pub never-short : length runin ≡ 2048 → length loop ≡ 20480 → a.number ≢ 5
   never-short r l =
-      verdict-number runin loop runin' loop' a (readPlan plan).outcome (readPlan plan).plan (read-early plan).0
-      (λ e small. rw (r, l) (roomy-enough (readPlan plan).plan (read-well plan e) small)) t
+      verdict-number runin loop runin' loop' a (read_plan plan).outcome (read_plan plan).plan (read-early plan).0
+      (λ e small. rw (r, l) (roomy-enough (read_plan plan).plan (read-well plan e) small)) t

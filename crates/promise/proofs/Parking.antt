@@ -8,7 +8,7 @@ use mathlib.Core.Logic.{◌↔◌}
 use Prim.Native.Nat.{ℕ, ◌≤◌}
 use lib.Count.{ones}
 use lib.ListN.{length, drop}
-use Rattle.plan.specs.Size.{size, loopRoom, tooLarge, roomy}
+use Rattle.plan.specs.Size.{size, loop_room, too_large, roomy}
 use Rattle.plan.specs.Tour.{Hard, Soft}
 use Rattle.plan.specs.Cost.{KeptIs, Counted}
 use Rattle.plan.specs.declared.Plan.{Plan}
@@ -17,7 +17,7 @@ use Rattle.plan.proofs.Parking.{Left, RoadTour, BestBefore, road-tours, tours-as
 use Rattle.reader.specs.declared.Outcome.{Outcome}
 use Rattle.reader.specs.declared.Outcome.TheVariants as outcome
 use Rattle.answer.specs.declared.Answer.{Answer}
-use Rattle.promise.specs.Promise.{Verdict, refuse, go, verdict, refusalAnswer, tourAnswer, TourOf, Planned, none, tour, Refused, Told, ToldOf}
+use Rattle.promise.specs.Promise.{Verdict, refuse, go, verdict, refusal_answer, tour_answer, TourOf, Planned, none, tour, Refused, Told, ToldOf}
 
 pub record TourBefore (p : Plan) (runin loop runin' loop' : List ℕ) (a : Answer) : Type 0 where
   pub stem : List ℕ
@@ -29,13 +29,13 @@ pub record TourBefore (p : Plan) (runin loop runin' loop' : List ℕ) (a : Answe
   pub counted : Counted (Soft p stem cycle) p.rules (ones kept)
   pub best : BestBefore p kept
   pub stem-short : length stem ≤ size p
-  pub cycle-short : length cycle ≤ loopRoom p
-  pub answer : a ≡ tourAnswer p kept (length stem) (length cycle)
+  pub cycle-short : length cycle ≤ loop_room p
+  pub answer : a ≡ tour_answer p kept (length stem) (length cycle)
   pub stem-text : runin' ≡ stem ++ drop (length stem) runin
   pub cycle-text : loop' ≡ cycle ++ drop (length cycle) loop
 
 pub data PlannedBefore (p : Plan) (runin loop runin' loop' : List ℕ) (a : Answer) : Type 0 where
-  without : ((stem cycle : List ℕ) → RoadTour p stem cycle → Hard p stem cycle → ⊥) → a ≡ refusalAnswer refusal.NoTour → runin' ≡ runin → loop' ≡ loop
+  without : ((stem cycle : List ℕ) → RoadTour p stem cycle → Hard p stem cycle → ⊥) → a ≡ refusal_answer refusal.NoTour → runin' ≡ runin → loop' ≡ loop
       → PlannedBefore p runin loop runin' loop' a
   found : TourBefore p runin loop runin' loop' a → PlannedBefore p runin loop runin' loop' a
 
@@ -100,4 +100,4 @@ module _ (p : Plan) (left : Left p) (runin loop runin' loop' : List ℕ) (a : An
   pub told-as-before : (o : Outcome) → ToldOf o p runin loop runin' loop' a ↔ ToldBefore o p runin loop runin' loop' a
   unfolding verdict Told ByVerdict
   told-as-before (outcome.Refused x) = (λ t. t, λ t. t)
-  told-as-before outcome.Plan = by-room (tooLarge p) (roomy p (length runin) (length loop))
+  told-as-before outcome.Plan = by-room (too_large p) (roomy p (length runin) (length loop))

@@ -16,20 +16,20 @@ use Rattle.text.specs.declared.fault.Fault.TheVariants.{Form, Range, Doubled}
 use Rattle.text.proofs.Lists.{under_more}
 use Rattle.plan.specs.Answers.{kind_of, consistent}
 use Rattle.plan.specs.WellFormed.{WellFormed}
-use Rattle.plan.specs.Size.{tooLarge, roomy}
+use Rattle.plan.specs.Size.{too_large, roomy}
 use Rattle.plan.specs.Refusal as refused
 use Rattle.plan.specs.declared.Plan.{Plan}
 use Rattle.plan.specs.declared.Refusal.{Refusal}
 use Rattle.plan.specs.declared.Refusal.TheVariants as refusal
 use Rattle.plan.proofs.Tours.{stem-under, cycle-under}
-use Rattle.reader.specs.Reading.{readPlan}
+use Rattle.reader.specs.Reading.{read_plan}
 use Rattle.reader.specs.declared.Outcome.{Outcome}
 use Rattle.reader.specs.declared.Outcome.TheVariants as outcome
 use Rattle.reader.proofs.Answers.{Turned, long, lined, read-turned}
 use Rattle.reader.proofs.WellRead.{read-well}
 use Rattle.answer.specs.Sound.{Sound}
 use Rattle.answer.specs.declared.Answer.{Answer}
-use Rattle.promise.specs.Promise.{verdict, refuse, go, refusalAnswer, TourOf, Planned, none, tour, Told, ToldOf, AnswerTo}
+use Rattle.promise.specs.Promise.{verdict, refuse, go, refusal_answer, TourOf, Planned, none, tour, Told, ToldOf, AnswerTo}
 use Rattle.plan.proofs.Charging.{cost-small}
 
 -- the run-in and the loop that an answer says are those at the front of the buffers
@@ -47,7 +47,7 @@ fault-agrees (Range n) h = rw (lt-ltb 0 n h)
 fault-agrees (Doubled n) h = rw (lt-ltb 0 n h)
 
 module _ (runin loop runin' loop' : List ℕ) (a : Answer) where
-  refusal-sound : (x : Refusal) → a ≡ refusalAnswer x → refused.line_of x ≤ 60001 → Agrees x → SoundIn runin' loop' a
+  refusal-sound : (x : Refusal) → a ≡ refusal_answer x → refused.line_of x ≤ 60001 → Agrees x → SoundIn runin' loop' a
   unfolding under
   refusal-sound x e early agrees = rw e (record {
     stem-length = refl;
@@ -60,10 +60,10 @@ module _ (runin loop runin' loop' : List ℕ) (a : Answer) where
     agrees = agrees;
   })
 
-  turned-sound : (x : Refusal) → a ≡ refusalAnswer x → Turned x → SoundIn runin' loop' a
+  turned-sound : (x : Refusal) → a ≡ refusal_answer x → Turned x → SoundIn runin' loop' a
   unfolding kind_of
-  turned-sound x e (long k) = refusal-sound refusal.PlanTooLong (e ∙ ap refusalAnswer k) (omega arith) refl
-  turned-sound x e (lined f k low high) = refusal-sound (refusal.Line f) (e ∙ ap refusalAnswer k) high (fault-agrees f low)
+  turned-sound x e (long k) = refusal-sound refusal.PlanTooLong (e ∙ ap refusal_answer k) (omega arith) refl
+  turned-sound x e (lined f k low high) = refusal-sound (refusal.Line f) (e ∙ ap refusal_answer k) high (fault-agrees f low)
 
   module _ (p : Plan) (ok : WellFormed p) where
     tour-sound : TourOf p runin loop runin' loop' a → SoundIn runin' loop' a
@@ -88,7 +88,7 @@ module _ (runin loop runin' loop' : List ℕ) (a : Answer) where
       → ToldOf o p runin loop runin' loop' a → SoundIn runin' loop' a
   unfolding verdict Told kind_of
   verdict-sound (outcome.Refused x) p why ok t = turned-sound x t.answer (why x refl)
-  verdict-sound outcome.Plan p why ok t = by (tooLarge p) (roomy p (length runin) (length loop)) t
+  verdict-sound outcome.Plan p why ok t = by (too_large p) (roomy p (length runin) (length loop)) t
     where
       by : (large room : Bool)
           → Told (cond large (refuse refusal.ProductTooLarge) (cond room (go p) (refuse refusal.BufferTooShort))) runin loop runin' loop' a
@@ -100,4 +100,4 @@ module _ (runin loop runin' loop' : List ℕ) (a : Answer) where
 pub told-sound : (plan runin loop runin' loop' : List ℕ) (a : Answer) → AnswerTo plan runin loop runin' loop' a
     → Sound a (take a.stem runin') (take a.cycle loop')
 told-sound plan runin loop runin' loop' a =
-    verdict-sound runin loop runin' loop' a (readPlan plan).outcome (readPlan plan).plan (read-turned plan) (read-well plan)
+    verdict-sound runin loop runin' loop' a (read_plan plan).outcome (read_plan plan).plan (read-turned plan) (read-well plan)

@@ -1,5 +1,5 @@
 -- The verdict as the code comes to it.
---   too_large                  == N is above 2,048
+--   too-large                  == N is above 2,048
 --   short-runin, short-loop    == it is not, and a buffer is too short
 --   roomy-planned              == both have room: what planning comes to is what is told
 --   refused-told, read_told    == a plan file that is turned away, and one that is read
@@ -12,55 +12,55 @@ use native.Mathlib.Omega.{arith}
 use borrow.Author.Tests.{lt-leb, le-leb}
 use lib.ListN.{length, drop, length-append}
 use lib.Dec.{leb}
-use Rattle.plan.specs.Size.{size, Sized, loopRoom, roomy}
+use Rattle.plan.specs.Size.{size, Sized, loop_room, roomy}
 use Rattle.plan.specs.declared.Plan.{Plan}
 use Rattle.plan.specs.declared.Refusal.{Refusal}
 use Rattle.plan.specs.declared.Refusal.TheVariants as refusal
 use Rattle.plan.proofs.Products.{sized-nodes}
-use Rattle.reader.specs.Reading.{readPlan}
+use Rattle.reader.specs.Reading.{read_plan}
 use Rattle.reader.specs.declared.Reading.{Reading}
 use Rattle.reader.specs.declared.Outcome.TheVariants as outcome
 use Rattle.answer.specs.declared.Answer.{Answer}
-use Rattle.promise.specs.Promise.{Verdict, verdict, refuse, go, refusalAnswer, Planned, none, tour, Told, ToldOf, AnswerTo}
+use Rattle.promise.specs.Promise.{Verdict, verdict, refuse, go, refusal_answer, Planned, none, tour, Told, ToldOf, AnswerTo}
 
 and_no : (b : Bool) → (b && false) ≡ false
 and_no true = refl
 and_no false = refl
 
 module _ (p : Plan) {large : Bool} {n : ℕ} (S : Sized p large n) (runin loop : List ℕ) (a : Answer) where
-  pub too_large : large ≡ true → a ≡ refusalAnswer refusal.ProductTooLarge → ToldOf outcome.Plan p runin loop runin loop a
+  pub too-large : large ≡ true → a ≡ refusal_answer refusal.ProductTooLarge → ToldOf outcome.Plan p runin loop runin loop a
   unfolding verdict Told
-  too_large h t = rw (sym S.judged ∙ h) (record { answer = t; same-runin = refl; same-loop = refl })
+  too-large h t = rw (sym S.judged ∙ h) (record { answer = t; same-runin = refl; same-loop = refl })
 
   module _ (h : large ≡ false) where
-    short : roomy p (length runin) (length loop) ≡ false → a ≡ refusalAnswer refusal.BufferTooShort → ToldOf outcome.Plan p runin loop runin loop a
+    short : roomy p (length runin) (length loop) ≡ false → a ≡ refusal_answer refusal.BufferTooShort → ToldOf outcome.Plan p runin loop runin loop a
     unfolding verdict Told
     short e t = rw (sym S.judged ∙ h, e) (record { answer = t; same-runin = refl; same-loop = refl })
 
-    pub short-runin : length runin < n → a ≡ refusalAnswer refusal.BufferTooShort → ToldOf outcome.Plan p runin loop runin loop a
+    pub short-runin : length runin < n → a ≡ refusal_answer refusal.BufferTooShort → ToldOf outcome.Plan p runin loop runin loop a
     short-runin k t = short (rw (lt-leb (size p) (length runin) (omega (arith, sized-nodes S h)))) t
 
-    pub short-loop : length loop < (p.rules + 2) * n → a ≡ refusalAnswer refusal.BufferTooShort → ToldOf outcome.Plan p runin loop runin loop a
+    pub short-loop : length loop < (p.rules + 2) * n → a ≡ refusal_answer refusal.BufferTooShort → ToldOf outcome.Plan p runin loop runin loop a
     short-loop k t =
-        let l : length loop < loopRoom p = subst (λ x. length loop < (p.rules + 2) * x) (sized-nodes S h) k in
-        short (rw (lt-leb (loopRoom p) (length loop) l) (and_no (leb (size p) (length runin)))) t
+        let l : length loop < loop_room p = subst (λ x. length loop < (p.rules + 2) * x) (sized-nodes S h) k in
+        short (rw (lt-leb (loop_room p) (length loop) l) (and_no (leb (size p) (length runin)))) t
 
     pub roomy-planned : (runin' loop' : List ℕ) → n ≤ length runin → (p.rules + 2) * n ≤ length loop → Planned p runin loop runin' loop' a
         → ToldOf outcome.Plan p runin loop runin' loop' a
     unfolding verdict Told
     roomy-planned runin' loop' r k P =
-        let l : loopRoom p ≤ length loop = subst (λ x. (p.rules + 2) * x ≤ length loop) (sized-nodes S h) k in
+        let l : loop_room p ≤ length loop = subst (λ x. (p.rules + 2) * x ≤ length loop) (sized-nodes S h) k in
         let s : size p ≤ length runin = omega (arith, sized-nodes S h) in
-        rw (sym S.judged ∙ h, le-leb (size p) (length runin) s, le-leb (loopRoom p) (length loop) l) P
+        rw (sym S.judged ∙ h, le-leb (size p) (length runin) s, le-leb (loop_room p) (length loop) l) P
 
 -- what the reader answered is what the plan file reads as
-module _ (plan : List ℕ) (r : Reading) (same : r ≡ readPlan plan) (runin loop : List ℕ) where
+module _ (plan : List ℕ) (r : Reading) (same : r ≡ read_plan plan) (runin loop : List ℕ) where
   pub read_told : (runin' loop' : List ℕ) (a : Answer) → r.outcome ≡ outcome.Plan → ToldOf outcome.Plan r.plan runin loop runin' loop' a
       → AnswerTo plan runin loop runin' loop' a
   read_told runin' loop' a e t =
       subst (λ x. ToldOf x.outcome x.plan runin loop runin' loop' a) same (subst (λ o. ToldOf o r.plan runin loop runin' loop' a) (sym e) t)
 
-  pub refused-told : (a : Answer) (x : Refusal) → r.outcome ≡ outcome.Refused x → a ≡ refusalAnswer x → AnswerTo plan runin loop runin loop a
+  pub refused-told : (a : Answer) (x : Refusal) → r.outcome ≡ outcome.Refused x → a ≡ refusal_answer x → AnswerTo plan runin loop runin loop a
   unfolding verdict Told
   refused-told a x e t =
       subst (λ y. ToldOf y.outcome y.plan runin loop runin loop a) same

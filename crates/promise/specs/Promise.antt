@@ -2,8 +2,8 @@
 --   Verdict              == a refusal that needs no planning, or the plan to be planned
 --   verdict o p r l      == of what a plan file reads as, and buffers of r and l bytes: its refusal 1 to 3, then 4 by the plan's size,
 --                           then 5; else the plan
---   refusalAnswer x      == the answer to a refusal: its number and line, and 0 in all else
---   tourAnswer p k s l   == the answer to a tour of p that keeps k, with run-in length s and loop length l
+--   refusal_answer x      == the answer to a refusal: its number and line, and 0 in all else
+--   tour_answer p k s l   == the answer to a tour of p that keeps k, with run-in length s and loop length l
 --   NoTour p             == the hard rule accepts no tour of p, of any lengths
 --   TourOf p runin loop runin' loop' a
 --                        == a tour of p is written over the front of both buffers, whose other bytes stay; the hard rule
@@ -17,13 +17,13 @@
 use Rattle.std.specs.Prelude.{◌≡◌, cond, List, ◌++◌, ℕ, ◌≤◌, length, drop}
 use Rattle.std.specs.Int.Count.{ones}
 use Rattle.plan.specs.Refusal.{number, line_of}
-use Rattle.plan.specs.Size.{size, tooLarge, loopRoom, roomy}
+use Rattle.plan.specs.Size.{size, too_large, loop_room, roomy}
 use Rattle.plan.specs.Tour.{IsLasso, Hard, Soft}
 use Rattle.plan.specs.Cost.{KeptIs, cost, Best, Counted}
 use Rattle.plan.specs.declared.Plan.{Plan}
 use Rattle.plan.specs.declared.Refusal.{Refusal}
 use Rattle.plan.specs.declared.Refusal.TheVariants as refusal
-use Rattle.reader.specs.Reading.{readPlan}
+use Rattle.reader.specs.Reading.{read_plan}
 use Rattle.reader.specs.declared.Outcome.{Outcome}
 use Rattle.reader.specs.declared.Outcome.TheVariants as outcome
 use Rattle.answer.specs.declared.Answer.{Answer}
@@ -34,13 +34,13 @@ pub data Verdict : Type 0 where
 
 unfoldable pub verdict : Outcome → Plan → ℕ → ℕ → Verdict
 verdict (outcome.Refused x) p r l = refuse x
-verdict outcome.Plan p r l = cond (tooLarge p) (refuse refusal.ProductTooLarge) (cond (roomy p r l) (go p) (refuse refusal.BufferTooShort))
+verdict outcome.Plan p r l = cond (too_large p) (refuse refusal.ProductTooLarge) (cond (roomy p r l) (go p) (refuse refusal.BufferTooShort))
 
-abbrev pub refusalAnswer : Refusal → Answer
-refusalAnswer x = record { number = number x; line = line_of x; cost = 0; kept = 0; count = 0; stem = 0; cycle = 0 }
+abbrev pub refusal_answer : Refusal → Answer
+refusal_answer x = record { number = number x; line = line_of x; cost = 0; kept = 0; count = 0; stem = 0; cycle = 0 }
 
-abbrev pub tourAnswer : Plan → ℕ → ℕ → ℕ → Answer
-tourAnswer p k s l = record { number = 0; line = 0; cost = cost p k; kept = k; count = ones k; stem = s; cycle = l }
+abbrev pub tour_answer : Plan → ℕ → ℕ → ℕ → Answer
+tour_answer p k s l = record { number = 0; line = 0; cost = cost p k; kept = k; count = ones k; stem = s; cycle = l }
 
 abbrev pub NoTour : Plan → Type 0
 NoTour p = (stem cycle : List ℕ) → IsLasso p stem cycle → Hard p stem cycle → ⊥
@@ -55,17 +55,17 @@ pub record TourOf (p : Plan) (runin loop runin' loop' : List ℕ) (a : Answer) :
   pub counted : Counted (Soft p stem cycle) p.rules (ones kept)
   pub best : Best p kept
   pub stem-short : length stem ≤ size p
-  pub cycle-short : length cycle ≤ loopRoom p
-  pub answer : a ≡ tourAnswer p kept (length stem) (length cycle)
+  pub cycle-short : length cycle ≤ loop_room p
+  pub answer : a ≡ tour_answer p kept (length stem) (length cycle)
   pub stem-text : runin' ≡ stem ++ drop (length stem) runin
   pub cycle-text : loop' ≡ cycle ++ drop (length cycle) loop
 
 pub data Planned (p : Plan) (runin loop runin' loop' : List ℕ) (a : Answer) : Type 0 where
-  none : NoTour p → a ≡ refusalAnswer refusal.NoTour → runin' ≡ runin → loop' ≡ loop → Planned p runin loop runin' loop' a
+  none : NoTour p → a ≡ refusal_answer refusal.NoTour → runin' ≡ runin → loop' ≡ loop → Planned p runin loop runin' loop' a
   tour : TourOf p runin loop runin' loop' a → Planned p runin loop runin' loop' a
 
 pub record Refused (x : Refusal) (runin loop runin' loop' : List ℕ) (a : Answer) : Type 0 where
-  pub answer : a ≡ refusalAnswer x
+  pub answer : a ≡ refusal_answer x
   pub same-runin : runin' ≡ runin
   pub same-loop : loop' ≡ loop
 
@@ -77,4 +77,4 @@ abbrev pub ToldOf : Outcome → Plan → List ℕ → List ℕ → List ℕ → 
 ToldOf o p runin loop runin' loop' a = Told (verdict o p (length runin) (length loop)) runin loop runin' loop' a
 
 abbrev pub AnswerTo : List ℕ → List ℕ → List ℕ → List ℕ → List ℕ → Answer → Type 0
-AnswerTo file runin loop runin' loop' a = ToldOf (readPlan file).outcome (readPlan file).plan runin loop runin' loop' a
+AnswerTo file runin loop runin' loop' a = ToldOf (read_plan file).outcome (read_plan file).plan runin loop runin' loop' a

@@ -2,7 +2,7 @@
 ghost use Rattle.std.specs.Prelude.{◌≡◌, ◌<◌, ◌≤◌};
 ghost use Rattle.plan.specs.WellFormed.{WellFormed};
 ghost use Rattle.plan.specs.Refusal.{line_of};
-ghost use Rattle.promise.specs.Promise.{refusalAnswer, tourAnswer};
+ghost use Rattle.promise.specs.Promise.{refusal_answer, tour_answer};
 
 use answer::Answer;
 use plan::{Plan, Refusal, cost_of, refusal_line, refusal_number};
@@ -10,7 +10,7 @@ use plan::{Plan, Refusal, cost_of, refusal_line, refusal_number};
 // The answer to a refusal: its number and line, and 0 in all else.
 pub fn refusal_answer(x: Refusal) -> Answer
     requires { line_of x ≤ 4294967295 }
-    ensures { result ≡ refusalAnswer x }
+    ensures { result ≡ refusal_answer x }
 {
     Answer {
         number: refusal_number(x),
@@ -26,7 +26,7 @@ pub fn refusal_answer(x: Refusal) -> Answer
 // The answer to a tour that keeps these rules.
 pub fn tour_answer(p: Plan, kept: u64, stem: usize, cycle: usize) -> Answer
     requires { WellFormed p × (kept < 256) × (stem < 65536) × (cycle < 65536) }
-    ensures { result ≡ tourAnswer p kept stem cycle }
+    ensures { result ≡ tour_answer p kept stem cycle }
 {
     let weights = p.weights;
     let cost = cost_of(&weights, p.rules as usize, kept);

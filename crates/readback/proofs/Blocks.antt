@@ -19,9 +19,9 @@ use Rattle.answer.specs.Block.{little}
 use Rattle.answer.proofs.Blocks.{number-little}
 use Rattle.plan.specs.Answers.{kind_of, consistent}
 use Rattle.plan.proofs.Numbers.{never, number-low}
-use Rattle.readback.specs.Reading.{readAnswer}
-use Rattle.readback.specs.Reply.{number, line_of, recordOf}
-use Rattle.readback.specs.Block.{head_of, block_of, said, saidBy}
+use Rattle.readback.specs.Reading.{read_answer}
+use Rattle.readback.specs.Reply.{number, line_of, record_of}
+use Rattle.readback.specs.Block.{head_of, block_of, said, said_by}
 use Rattle.readback.specs.declared.Record.{Record}
 use Rattle.readback.specs.declared.Reply.{Reply}
 use Rattle.readback.specs.declared.Reply.TheVariants.{Read, Refused}
@@ -50,7 +50,7 @@ head_done {b} n line x room d₁ d₂ d₃ d₄ d₅ d₆ d₇ =
     let l₆ = left-next (little 4 x.cost) _ l₅ d₆ in
     left-last l₆ d₇
 
-pub block-done : (q : Reply) {b b₁ b₂ b₃ : List ℕ} (n line : ℕ) (x : Record) → 32 ≤ length b → n ≡ number q → line ≡ line_of q → x ≡ recordOf q
+pub block-done : (q : Reply) {b b₁ b₂ b₃ : List ℕ} (n line : ℕ) (x : Record) → 32 ≤ length b → n ≡ number q → line ≡ line_of q → x ≡ record_of q
     → Wrote b 0 (head_of n line x) b₁ 16
     → Wrote b₁ 16 (little 8 x.stem) b₂ 24
     → Wrote b₂ 24 (little 8 x.cycle) b₃ 32
@@ -62,25 +62,25 @@ block-done q {b} n line x room e f g d₁ d₂ d₃ =
 pub record Narrow (q : Reply) : Type 0 where
   pub number : number q < 256
   pub line : line_of q < 4294967296
-  pub answer : (recordOf q).number < 256
-  pub plan-line : (recordOf q).line < 4294967296
-  pub cost : (recordOf q).cost < 4294967296
-  pub kept : (recordOf q).kept < 256
-  pub stem : (recordOf q).stem < 18446744073709551616
-  pub cycle : (recordOf q).cycle < 18446744073709551616
+  pub answer : (record_of q).number < 256
+  pub plan-line : (record_of q).line < 4294967296
+  pub cost : (record_of q).cost < 4294967296
+  pub kept : (record_of q).kept < 256
+  pub stem : (record_of q).stem < 18446744073709551616
+  pub cycle : (record_of q).cycle < 18446744073709551616
 
-pub block-says : (q : Reply) → Narrow q → saidBy (block_of q) ≡ said q
-unfolding little head_of block_of saidBy
+pub block-says : (q : Reply) → Narrow q → said_by (block_of q) ≡ said q
+unfolding little head_of block_of said_by
 block-says q h =
     rw (
       number-little 1 (number q) h.number,
-      number-little 1 (recordOf q).kept h.kept,
-      number-little 1 (recordOf q).number h.answer,
+      number-little 1 (record_of q).kept h.kept,
+      number-little 1 (record_of q).number h.answer,
       number-little 4 (line_of q) h.line,
-      number-little 4 (recordOf q).cost h.cost,
-      number-little 4 (recordOf q).line h.plan-line,
-      number-little 8 (recordOf q).stem h.stem,
-      number-little 8 (recordOf q).cycle h.cycle,
+      number-little 4 (record_of q).cost h.cost,
+      number-little 4 (record_of q).line h.plan-line,
+      number-little 8 (record_of q).stem h.stem,
+      number-little 8 (record_of q).cycle h.cycle,
     )
 
 agreed-low : (n line cost kept stem cycle : ℕ) → consistent (kind_of n) line cost kept stem cycle ≡ true → n < 11
@@ -91,10 +91,10 @@ agreed-low n line cost kept stem cycle e = by (ltb n 11) refl
     by false h = let z : false ≡ true = rw (never n (ltb-false n 11 h)) at e in let w : ◌≡◌ {A = ℕ} 0 1 = cc in absurd (omega arith)
 
 module _ (s : List ℕ) (r l : ℕ) (few : r < 18446744073709551616) (short : l < 18446744073709551616) where
-  pub reply-narrow : Narrow (readAnswer s r l)
-  reply-narrow = by (readAnswer s r l) refl
+  pub reply-narrow : Narrow (read_answer s r l)
+  reply-narrow = by (read_answer s r l) refl
     where
-      by : (q : Reply) → readAnswer s r l ≡ q → Narrow (readAnswer s r l)
+      by : (q : Reply) → read_answer s r l ≡ q → Narrow (read_answer s r l)
       by (Read x) e =
           let sound = read-sound s r l x e in
           let room = read_fits s r l x e in

@@ -16,9 +16,9 @@ use native.Mathlib.Omega.{arith}
 use borrow.Author.Tests.{ltb-true, ltb-false}
 use lib.Dec.{ltb}
 use lib.ListN.{drop}
-use Rattle.text.specs.Scan.{key_at, nextNumber, value_of}
-use Rattle.text.specs.Line.{pair, badForm, judged, lineOfOne, first_of, top, finish}
-use Rattle.text.specs.List.{listLine, places_of}
+use Rattle.text.specs.Scan.{key_at, next_number, value_of}
+use Rattle.text.specs.Line.{pair, bad_form, judged, line_of_one, first_of, top, finish}
+use Rattle.text.specs.List.{list_line, places_of}
 use Rattle.text.specs.Runs.{Stands}
 use Rattle.text.specs.declared.fault.Fault.{Fault}
 use Rattle.text.specs.declared.read.Number.{Number}
@@ -32,8 +32,8 @@ use Rattle.text.proofs.Held.{Told}
 use Rattle.plan.proofs.Numbers.{never}
 use Rattle.plan.specs.declared.Refusal.{Refusal}
 use Rattle.plan.specs.declared.Refusal.TheVariants as refusal
-use Rattle.answer.specs.Text.{answerKey, line_key, costKey, keptKey, runinKey, loopKey}
-use Rattle.readback.specs.Reading.{known, answerLine, draftOf, agrees, roomy, judge, replyOf, readAnswer, runinOf, loop_of, written}
+use Rattle.answer.specs.Text.{answer_key, line_key, cost_key, kept_key, runin_key, loop_key}
+use Rattle.readback.specs.Reading.{known, answer_line, draft_of, agrees, roomy, judge, reply_of, read_answer, runin_of, loop_of, written}
 use Rattle.readback.specs.declared.Record.{Record}
 use Rattle.readback.specs.declared.Draft.{Draft}
 use Rattle.readback.specs.declared.Reply.{Reply}
@@ -49,35 +49,35 @@ known-held s at next v x e = by (ltb v 11) refl
     by false h = let l = ltb-false v 11 h in rw (never x (omega arith), never v l)
 
 module _ (s : List ℕ) (l : Line) where
-  pub answer-fault : (f : Fault) → l ≡ line.Fault f → l ≡ answerLine s l
-  unfolding answerLine
+  pub answer-fault : (f : Fault) → l ≡ line.Fault f → l ≡ answer_line s l
+  unfolding answer_line
   answer-fault f p = rw p
 
   module _ (xs : Numbers) (c : Cursor) (p : l ≡ line.Numbers xs c) where
     abbrev number : Number
-    number = nextNumber s (key_at s c.at answerKey) 10
+    number = next_number s (key_at s c.at answer_key) 10
 
-    pub answer-bad : number ≡ Bad → badForm s c.at ≡ answerLine s l
-    unfolding answerLine
+    pub answer-bad : number ≡ Bad → bad_form s c.at ≡ answer_line s l
+    unfolding answer_line
     answer-bad e = rw (p, e)
 
-    pub answer-good : (x n : ℕ) → Told number x n → judged s c.at n (known x) (pair x 0) ≡ answerLine s l
-    unfolding answerLine
+    pub answer-good : (x n : ℕ) → Told number x n → judged s c.at n (known x) (pair x 0) ≡ answer_line s l
+    unfolding answer_line
     answer-good x n t = known-held s c.at n (value_of number) x t.held ∙ rw (p, t.is)
 
 module _ (s : List ℕ) where
   pub draft-made : (before number line cost kept : Line) (stem cycle : ListLine) (last : Line) (a b c d : ℕ)
-      → before ≡ top → number ≡ answerLine s before → line ≡ lineOfOne s number line_key 0 65536
-      → cost ≡ lineOfOne s line costKey 0 32000001 → kept ≡ lineOfOne s cost keptKey 0 256
-      → stem ≡ listLine s kept runinKey 128 → cycle ≡ listLine s stem.line loopKey 128
+      → before ≡ top → number ≡ answer_line s before → line ≡ line_of_one s number line_key 0 65536
+      → cost ≡ line_of_one s line cost_key 0 32000001 → kept ≡ line_of_one s cost kept_key 0 256
+      → stem ≡ list_line s kept runin_key 128 → cycle ≡ list_line s stem.line loop_key 128
       → a ≡ first_of number → b ≡ first_of line → c ≡ first_of cost → d ≡ first_of kept → last ≡ finish s cycle.line
       → ◌≡◌ {A = Draft} (record {
         line = last;
         says = record { number = a; line = b; cost = c; kept = d; stem = stem.list.count; cycle = cycle.list.count };
         stem = stem.list;
         cycle = cycle.list;
-      }) (draftOf s)
-  unfolding draftOf
+      }) (draft_of s)
+  unfolding draft_of
   draft-made before number line cost kept stem cycle last a b c d e0 e1 e2 e3 e4 e5 e6 f1 f2 f3 f4 e7 =
       rw (e7, f4, f3, f2, f1, e6, e5, e4, e3, e2, e1, e0)
 
@@ -86,16 +86,16 @@ pub judge-by : (x : Record) (r l : ℕ) (room agree : Bool) → room ≡ roomy x
 unfolding judge
 judge-by x r l room agree e f q g = g ∙ rw (e, f)
 
-pub reply-fault : (l : Line) (f : Fault) (x : Record) (r n : ℕ) → l ≡ line.Fault f → Refused (refusal.Line f) ≡ replyOf l x r n
+pub reply-fault : (l : Line) (f : Fault) (x : Record) (r n : ℕ) → l ≡ line.Fault f → Refused (refusal.Line f) ≡ reply_of l x r n
 reply-fault l f x r n e = rw e
 
-pub reply-good : (l : Line) (xs : Numbers) (c : Cursor) (x : Record) (r n : ℕ) → l ≡ line.Numbers xs c → judge x r n ≡ replyOf l x r n
+pub reply-good : (l : Line) (xs : Numbers) (c : Cursor) (x : Record) (r n : ℕ) → l ≡ line.Numbers xs c → judge x r n ≡ reply_of l x r n
 reply-good l xs c x r n e = rw e
 
 module _ (s : List ℕ) (r l : ℕ) where
-  module _ (d : Draft) (same : d ≡ draftOf s) (q : Reply) (k : q ≡ replyOf d.line d.says r l) where
-    pub replied : q ≡ readAnswer s r l
-    unfolding readAnswer
+  module _ (d : Draft) (same : d ≡ draft_of s) (q : Reply) (k : q ≡ reply_of d.line d.says r l) where
+    pub replied : q ≡ read_answer s r l
+    unfolding read_answer
     replied = rw (k, same)
 
     module _ (x : Record) (e : q ≡ Read x) where
@@ -108,7 +108,7 @@ module _ (s : List ℕ) (r l : ℕ) where
       pub cycle-stands : Stands s d.cycle × (d.cycle.count ≤ l)
       cycle-stands = rw same (held.cycle, held.cycle-room)
 
-      pub runin-written : (before after : List ℕ) → after ≡ places_of s d.stem ++ drop d.stem.count before → after ≡ written q (runinOf s) before
+      pub runin-written : (before after : List ℕ) → after ≡ places_of s d.stem ++ drop d.stem.count before → after ≡ written q (runin_of s) before
       runin-written before after w = w ∙ rw (e, same, held.stem.whole)
 
       pub loop-written : (before after : List ℕ) → after ≡ places_of s d.cycle ++ drop d.cycle.count before → after ≡ written q (loop_of s) before

@@ -14,7 +14,7 @@ use native.Mathlib.Omega.{arith}
 use borrow.Author.Tests.{le-leb}
 use lib.ListN.{length, drop}
 use Rattle.text.specs.Decimal.{decimal}
-use Rattle.text.specs.KeyLine.{joined, keyLine}
+use Rattle.text.specs.KeyLine.{joined, key_line}
 use Rattle.text.specs.Line.{pair}
 use Rattle.text.specs.List.{places_of}
 use Rattle.text.specs.declared.line.Numbers.{Numbers}
@@ -24,11 +24,11 @@ use Rattle.text.proofs.ReadLines.{line-rest, value-back, within-from-0, one-back
 use Rattle.plan.specs.Answers.{kind_of, consistent}
 use Rattle.plan.specs.declared.kind.Kind.{Kind}
 use Rattle.plan.specs.declared.kind.Kind.TheVariants as kind
-use Rattle.answer.specs.Text.{answerKey, line_key, costKey, keptKey, runinKey, loopKey, text_of}
+use Rattle.answer.specs.Text.{answer_key, line_key, cost_key, kept_key, runin_key, loop_key, text_of}
 use Rattle.answer.specs.Sound.{Sound}
 use Rattle.answer.specs.declared.Answer.{Answer}
 use Rattle.answer.proofs.Texts.{lines_of, text-lines}
-use Rattle.readback.specs.Reading.{given, known, answerLine, draftOf, judge, readAnswer, runinOf, loop_of}
+use Rattle.readback.specs.Reading.{given, known, answer_line, draft_of, judge, read_answer, runin_of, loop_of}
 use Rattle.readback.specs.declared.Record.{Record}
 use Rattle.readback.specs.declared.Draft.{Draft}
 use Rattle.readback.specs.declared.Reply.TheVariants.{Read}
@@ -42,11 +42,11 @@ given-all kind.Never line cost kept stem cycle e = e
 known-sound : (a : Answer) (stem cycle : List ℕ) → Sound a stem cycle → known a.number ≡ true
 known-sound a stem cycle h = given-all (kind_of a.number) a.line a.cost a.kept a.stem a.cycle h.agrees
 
-answer_back : (s : List ℕ) (at n : ℕ) (rest : List ℕ) → drop at s ≡ keyLine answerKey (decimal n) ++ rest → known n ≡ true → (xs : Numbers)
-    → answerLine s (line.Numbers xs (record { at = at }))
-    ≡ line.Numbers (pair n 0) (record { at = at + length (keyLine answerKey (decimal n)) })
-unfolding answerLine
-answer_back s at n rest k fit xs = rw (value-back s at answerKey n rest k, fit)
+answer_back : (s : List ℕ) (at n : ℕ) (rest : List ℕ) → drop at s ≡ key_line answer_key (decimal n) ++ rest → known n ≡ true → (xs : Numbers)
+    → answer_line s (line.Numbers xs (record { at = at }))
+    ≡ line.Numbers (pair n 0) (record { at = at + length (key_line answer_key (decimal n)) })
+unfolding answer_line
+answer_back s at n rest k fit xs = rw (value-back s at answer_key n rest k, fit)
 
 abbrev says : Answer → Record
 says a = record { number = a.number; line = a.line; cost = a.cost; kept = a.kept; stem = a.stem; cycle = a.cycle }
@@ -55,56 +55,56 @@ record Drafted (a : Answer) (stem cycle s : List ℕ) : Type 0 where
   pub end : ℕ
   pub runin : Span
   pub loop : Span
-  pub is : ◌≡◌ {A = Draft} (draftOf s) (record { line = line.Numbers (pair 0 0) (record { at = end }); says = says a; stem = runin; cycle = loop })
+  pub is : ◌≡◌ {A = Draft} (draft_of s) (record { line = line.Numbers (pair 0 0) (record { at = end }); says = says a; stem = runin; cycle = loop })
   pub stem-back : places_of s runin ≡ stem
   pub cycle-back : places_of s loop ≡ cycle
 
 drafted : (a : Answer) (stem cycle : List ℕ) → Sound a stem cycle → (s : List ℕ) → s ≡ lines_of a stem cycle → Drafted a stem cycle s
-unfolding draftOf
+unfolding draft_of
 drafted a stem cycle h s e =
-    let line_at_lem = 0 + length (keyLine answerKey (decimal a.number)) in
-    let cost-at = line_at_lem + length (keyLine line_key (decimal a.line)) in
-    let kept_at = cost-at + length (keyLine costKey (decimal a.cost)) in
-    let stem-at = kept_at + length (keyLine keptKey (decimal a.kept)) in
-    let cycle-at = stem-at + length (keyLine runinKey (joined stem)) in
-    let line-there = line-rest s 0 answerKey _ _ e in
+    let line_at_lem = 0 + length (key_line answer_key (decimal a.number)) in
+    let cost-at = line_at_lem + length (key_line line_key (decimal a.line)) in
+    let kept_at = cost-at + length (key_line cost_key (decimal a.cost)) in
+    let stem-at = kept_at + length (key_line kept_key (decimal a.kept)) in
+    let cycle-at = stem-at + length (key_line runin_key (joined stem)) in
+    let line-there = line-rest s 0 answer_key _ _ e in
     let cost-there = line-rest s line_at_lem line_key _ _ line-there in
-    let kept_there = line-rest s cost-at costKey _ _ cost-there in
-    let stem-there = line-rest s kept_at keptKey _ _ kept_there in
-    let cycle-there = line-rest s stem-at runinKey _ _ stem-there in
-    let none-there = line-rest s cycle-at loopKey _ [] cycle-there in
+    let kept_there = line-rest s cost-at cost_key _ _ cost-there in
+    let stem-there = line-rest s kept_at kept_key _ _ kept_there in
+    let cycle-there = line-rest s stem-at runin_key _ _ stem-there in
+    let none-there = line-rest s cycle-at loop_key _ [] cycle-there in
     record {
-      end = cycle-at + length (keyLine loopKey (joined cycle));
-      runin = record { at = stem-at + length runinKey; count = a.stem };
-      loop = record { at = cycle-at + length loopKey; count = a.cycle };
+      end = cycle-at + length (key_line loop_key (joined cycle));
+      runin = record { at = stem-at + length runin_key; count = a.stem };
+      loop = record { at = cycle-at + length loop_key; count = a.cycle };
       is =
           rw (
             answer_back s 0 a.number _ e (known-sound a stem cycle h) _,
             one-back s line_at_lem line_key a.line _ line-there 0 65536 (within-from-0 _ _ h.line) _,
-            one-back s cost-at costKey a.cost _ cost-there 0 32000001 (within-from-0 _ _ h.cost) _,
-            one-back s kept_at keptKey a.kept _ kept_there 0 256 (within-from-0 _ _ h.kept) _,
-            list_back s stem-at runinKey stem _ stem-there 128 h.stem-places _,
-            list_back s cycle-at loopKey cycle [] cycle-there 128 h.cycle-places _,
+            one-back s cost-at cost_key a.cost _ cost-there 0 32000001 (within-from-0 _ _ h.cost) _,
+            one-back s kept_at kept_key a.kept _ kept_there 0 256 (within-from-0 _ _ h.kept) _,
+            list_back s stem-at runin_key stem _ stem-there 128 h.stem-places _,
+            list_back s cycle-at loop_key cycle [] cycle-there 128 h.cycle-places _,
             finish-back s _ none-there _,
             h.stem-length,
             h.cycle-length,
           );
-      stem-back = places-back s stem-at runinKey stem _ stem-there;
-      cycle-back = places-back s cycle-at loopKey cycle [] cycle-there;
+      stem-back = places-back s stem-at runin_key stem _ stem-there;
+      cycle-back = places-back s cycle-at loop_key cycle [] cycle-there;
     }
 
 printed : (a : Answer) (stem cycle : List ℕ) → Sound a stem cycle → Drafted a stem cycle (text_of a stem cycle)
 printed a stem cycle h = drafted a stem cycle h (text_of a stem cycle) (text-lines a stem cycle)
 
 pub sound-read : (a : Answer) (stem cycle : List ℕ) → Sound a stem cycle → (r l : ℕ) → length stem ≤ r → length cycle ≤ l
-    → readAnswer (text_of a stem cycle) r l
+    → read_answer (text_of a stem cycle) r l
     ≡ Read (record { number = a.number; line = a.line; cost = a.cost; kept = a.kept; stem = a.stem; cycle = a.cycle })
-unfolding readAnswer judge
+unfolding read_answer judge
 sound-read a stem cycle h r l hr hl =
     let d = printed a stem cycle h in
     rw (d.is, le-leb a.stem r (omega (arith, h.stem-length)), le-leb a.cycle l (omega (arith, h.cycle-length)), h.agrees)
 
-pub sound-runin : (a : Answer) (stem cycle : List ℕ) → Sound a stem cycle → runinOf (text_of a stem cycle) ≡ stem
+pub sound-runin : (a : Answer) (stem cycle : List ℕ) → Sound a stem cycle → runin_of (text_of a stem cycle) ≡ stem
 sound-runin a stem cycle h = let d = printed a stem cycle h in rw d.is d.stem-back
 
 pub sound-loop : (a : Answer) (stem cycle : List ℕ) → Sound a stem cycle → loop_of (text_of a stem cycle) ≡ cycle

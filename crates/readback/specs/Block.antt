@@ -4,11 +4,11 @@
 --   Said      == the numbers of a block: the reply's number and line, and of the answer that was read its number, line, cost, kept, and the
 --                lengths of run-in and loop
 --   said q    == those of a reply
---   saidBy b  == those that the bytes b say
+--   said_by b  == those that the bytes b say
 use Rattle.std.specs.Prelude.{List, ◌∷◌, ◌++◌, ℕ, take, drop}
 use Rattle.answer.specs.Block as bytes
 use Rattle.answer.specs.Block.{little}
-use Rattle.readback.specs.Reply.{number, line_of, recordOf}
+use Rattle.readback.specs.Reply.{number, line_of, record_of}
 use Rattle.readback.specs.declared.Record.{Record}
 use Rattle.readback.specs.declared.Reply.{Reply}
 
@@ -21,7 +21,7 @@ head_of n line x =
 
 -- 16..23 run-in length, 24..31 loop length
 unfoldable pub block_of : Reply → List ℕ
-block_of q = head_of (number q) (line_of q) (recordOf q) ++ (little 8 (recordOf q).stem ++ little 8 (recordOf q).cycle)
+block_of q = head_of (number q) (line_of q) (record_of q) ++ (little 8 (record_of q).stem ++ little 8 (record_of q).cycle)
 
 pub record Said : Type 0 where
   pub number : ℕ
@@ -29,10 +29,10 @@ pub record Said : Type 0 where
   pub answer : Record
 
 abbrev pub said : Reply → Said
-said q = record { number = number q; line = line_of q; answer = recordOf q }
+said q = record { number = number q; line = line_of q; answer = record_of q }
 
-unfoldable pub saidBy : List ℕ → Said
-saidBy b =
+unfoldable pub said_by : List ℕ → Said
+said_by b =
     record {
       number = bytes.number (take 1 b);
       line = bytes.number (take 4 (drop 4 b));

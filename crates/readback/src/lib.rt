@@ -2,8 +2,8 @@
 ghost use Rattle.std.specs.Prelude.{◌≡◌, ◌&&◌, ◌++◌, ◌≤◌, eqb, ltb, length, drop};
 ghost use Rattle.text.specs.Over.{Wrote};
 ghost use Rattle.plan.specs.Answers.{blank};
-ghost use Rattle.readback.specs.Reading.{known, answerLine, draftOf, agrees, roomy, judge, replyOf, readAnswer, runinOf, loop_of, written};
-ghost use Rattle.readback.specs.Reply.{number, line_of, recordOf};
+ghost use Rattle.readback.specs.Reading.{known, answer_line, draft_of, agrees, roomy, judge, reply_of, read_answer, runin_of, loop_of, written};
+ghost use Rattle.readback.specs.Reply.{number, line_of, record_of};
 ghost use Rattle.readback.specs.Block.{head_of, block_of};
 
 use answer::{put_little, put_wide};
@@ -56,7 +56,7 @@ fn known(number: u32) -> bool
 
 // The line `answer=n`.
 fn answer_line(s: &[u8], prior: Line) -> Line
-    ensures { result ≡ answerLine s.now prior }
+    ensures { result ≡ answer_line s.now prior }
 {
     let Line::Numbers(_, cursor) = prior else {
         return prior;
@@ -70,7 +70,7 @@ fn answer_line(s: &[u8], prior: Line) -> Line
 }
 
 fn read_lines(s: &[u8]) -> Draft
-    ensures { result ≡ draftOf s.now }
+    ensures { result ≡ draft_of s.now }
 {
     let number = answer_line(s, top());
     let line = line_of_one(s, number, b"line=", 0, 65536);
@@ -184,7 +184,7 @@ fn judge(x: Record, runin: usize, cycle: usize) -> Reply
 
 // What lines that end with `line` and make the record x are answered with.
 fn reply_of(line: Line, x: Record, runin: usize, cycle: usize) -> Reply
-    ensures { result ≡ replyOf line x runin cycle }
+    ensures { result ≡ reply_of line x runin cycle }
 {
     let Line::Fault(fault) = line else {
         return judge(x, runin, cycle);
@@ -195,8 +195,8 @@ fn reply_of(line: Line, x: Record, runin: usize, cycle: usize) -> Reply
 // Reads the text of an answer: its record, with the places over the front of run-in and loop; or why it is turned away,
 // with no byte touched.
 pub fn read_answer(s: &[u8], runin: &mut [u8], cycle: &mut [u8]) -> Reply
-    ensures value { result ≡ readAnswer s.now (length runin.old) (length cycle.old) }
-    ensures runin_after { runin.new ≡ written result (runinOf s.now) runin.old }
+    ensures value { result ≡ read_answer s.now (length runin.old) (length cycle.old) }
+    ensures runin_after { runin.new ≡ written result (runin_of s.now) runin.old }
     ensures cycle_after { cycle.new ≡ written result (loop_of s.now) cycle.old }
 {
     let draft = read_lines(s);
@@ -235,7 +235,7 @@ pub fn reply_line(reply: Reply) -> usize
 
 // What was read; all of it is 0 on a refusal.
 pub fn record_of(reply: Reply) -> Record
-    ensures { result ≡ recordOf reply }
+    ensures { result ≡ record_of reply }
 {
     match reply {
         Reply::Read(x) => x,

@@ -21,12 +21,12 @@ use Rattle.plan.specs.Refusal as refusal
 use Rattle.plan.specs.declared.Plan.{Plan}
 use Rattle.plan.specs.declared.Refusal.{Refusal}
 use Rattle.plan.specs.declared.Refusal.TheVariants as cause
-use Rattle.reader.specs.Keys.{rulesKey}
-use Rattle.text.specs.Line.{lineOfOne, first_of, finish}
-use Rattle.reader.specs.Blocks.{hardBlock, softBlocks}
-use Rattle.reader.specs.Map.{mapOf}
+use Rattle.reader.specs.Keys.{rules_key}
+use Rattle.text.specs.Line.{line_of_one, first_of, finish}
+use Rattle.reader.specs.Blocks.{hard_block, soft_blocks}
+use Rattle.reader.specs.Map.{map_of}
 use Rattle.reader.specs.Outcome.{number, line_of}
-use Rattle.reader.specs.Reading.{draftOf, refuse, answer, readPlan}
+use Rattle.reader.specs.Reading.{draft_of, refuse, answer, read_plan}
 use Rattle.text.specs.declared.line.Numbers.{Numbers}
 use Rattle.text.specs.declared.line.Cursor.{Cursor}
 use Rattle.text.specs.declared.line.Line.{Line}
@@ -42,8 +42,8 @@ use Rattle.reader.proofs.Sticky.{Placed, draft-placed}
 
 module _ (s : List ℕ) where
   pub draft-made : (m : Map) (bound : ℕ) (h : AutomatonBlock) (count : Line) (n : ℕ) (x : SoftBlocks) (l : Line)
-      → m ≡ mapOf s → bound ≡ 2 ^ m.marks → h ≡ hardBlock s m.line bound → count ≡ lineOfOne s h.line rulesKey 0 9
-      → n ≡ first_of count → x ≡ softBlocks s count n bound → l ≡ finish s x.line
+      → m ≡ map_of s → bound ≡ 2 ^ m.marks → h ≡ hard_block s m.line bound → count ≡ line_of_one s h.line rules_key 0 9
+      → n ≡ first_of count → x ≡ soft_blocks s count n bound → l ≡ finish s x.line
       → ◌≡◌ {A = Draft} (record {
         line = l;
         plan = record {
@@ -59,22 +59,22 @@ module _ (s : List ℕ) where
           soft = x.soft;
           weights = x.weights;
         };
-      }) (draftOf s)
-  unfolding draftOf
+      }) (draft_of s)
+  unfolding draft_of
   draft-made m bound h count n x l e1 e2 e3 e4 e5 e6 e7 = rw (e7, e6, e5, e4, e3, e2, e1)
 
-  pub too_long : 60000 < length s → refuse cause.PlanTooLong ≡ readPlan s
-  unfolding readPlan
+  pub too_long : 60000 < length s → refuse cause.PlanTooLong ≡ read_plan s
+  unfolding read_plan
   too_long h = rw (lt-ltb 60000 (length s) h)
 
-  module _ (h : length s ≤ 60000) (d : Draft) (e : d ≡ draftOf s) where
-    pub faulty : (f : Fault) → d.line ≡ line.Fault f → refuse (cause.Line f) ≡ readPlan s
-    unfolding readPlan answer
+  module _ (h : length s ≤ 60000) (d : Draft) (e : d ≡ draft_of s) where
+    pub faulty : (f : Fault) → d.line ≡ line.Fault f → refuse (cause.Line f) ≡ read_plan s
+    unfolding read_plan answer
     faulty f k = rw (le-ltb 60000 (length s) h, ← e, k)
 
     pub faultless : (xs : Numbers) (c : Cursor) → d.line ≡ line.Numbers xs c
-        → ◌≡◌ {A = Reading} (record { outcome = outcome.Plan; plan = d.plan }) (readPlan s)
-    unfolding readPlan answer
+        → ◌≡◌ {A = Reading} (record { outcome = outcome.Plan; plan = d.plan }) (read_plan s)
+    unfolding read_plan answer
     faultless xs c k = rw (le-ltb 60000 (length s) h, ← e, k)
 
 pub data Turned (x : Refusal) : Type 0 where
@@ -103,21 +103,21 @@ module _ (s : List ℕ) where
   answered (line.Fault f) p h at x e = lined f (cc) at.0 (omega arith)
   answered (line.Numbers xs c) p h at x e = let z : ◌≡◌ {A = ℕ} 0 1 = cc in absurd (omega arith)
 
-  pub read-turned : (x : Refusal) → (readPlan s).outcome ≡ outcome.Refused x → Turned x
-  unfolding readPlan
+  pub read-turned : (x : Refusal) → (read_plan s).outcome ≡ outcome.Refused x → Turned x
+  unfolding read_plan
   read-turned x = by (ltb 60000 (length s)) refl
     where
       by : (b : Bool) → ltb 60000 (length s) ≡ b
-          → (cond b (refuse cause.PlanTooLong) (answer (draftOf s).line (draftOf s).plan)).outcome ≡ outcome.Refused x → Turned x
+          → (cond b (refuse cause.PlanTooLong) (answer (draft_of s).line (draft_of s).plan)).outcome ≡ outcome.Refused x → Turned x
       by true e k = long (cc)
-      by false e k = answered (draftOf s).line (draftOf s).plan (ltb-false 60000 (length s) e) (draft-placed s) x k
+      by false e k = answered (draft_of s).line (draft_of s).plan (ltb-false 60000 (length s) e) (draft-placed s) x k
 
-  pub read-early : Early (number (readPlan s).outcome) × (line_of (readPlan s).outcome ≤ 60001)
-  read-early = by (readPlan s).outcome refl
+  pub read-early : Early (number (read_plan s).outcome) × (line_of (read_plan s).outcome ≤ 60001)
+  read-early = by (read_plan s).outcome refl
     where
-      by : (o : Outcome) → (readPlan s).outcome ≡ o → Early (number o) × (line_of o ≤ 60001)
+      by : (o : Outcome) → (read_plan s).outcome ≡ o → Early (number o) × (line_of o ≤ 60001)
       by outcome.Plan e = (early 0 (omega arith), omega arith)
       by (outcome.Refused x) e = turned-early (read-turned x e)
 
-  pub refused-early : (r : Reading) → r ≡ readPlan s → (x : Refusal) → r.outcome ≡ outcome.Refused x → refusal.line_of x ≤ 60001
+  pub refused-early : (r : Reading) → r ≡ read_plan s → (x : Refusal) → r.outcome ≡ outcome.Refused x → refusal.line_of x ≤ 60001
   refused-early r same x e = (turned-early (read-turned x (ap (λ y. y.outcome) (sym same) ∙ e))).1

@@ -7,7 +7,7 @@ use native.Mathlib.Omega.{arith}
 use lib.ListN.{set, get_or, replicate}
 use lib.Seq.{get_or-set_other}
 use Rattle.automata.specs.WellFormed.{Below, ZeroFrom}
-use Rattle.reader.specs.Blocks.{repeat, Filling, labelStep, labelBlock, roadStep, roadBlock, moveStep, moveBlock}
+use Rattle.reader.specs.Blocks.{repeat, Filling, label_step, label_block, road_step, road_block, move_step, move_block}
 use Rattle.text.specs.declared.line.Line.{Line}
 use Rattle.reader.specs.declared.block.LabelBlock.{LabelBlock}
 use Rattle.reader.specs.declared.block.RoadBlock.{RoadBlock}
@@ -67,10 +67,10 @@ pub column-below : (bound i : ℕ) (xs : List ℕ) → 1 ≤ bound → Column (b
 column-below bound i xs o c k = let z = c.low k in omega arith
 
 module _ (s : List ℕ) where
-  pub labels-filled : (l : Line) (n bound : ℕ) → Column (bound - 1) n (labelBlock s l n bound).labels
-  unfolding labelBlock
+  pub labels-filled : (l : Line) (n bound : ℕ) → Column (bound - 1) n (label_block s l n bound).labels
+  unfolding label_block
   labels-filled l n bound =
-      filled (labelStep s bound) (λ (i : ℕ) (b : LabelBlock). Column (bound - 1) i b.labels) (λ x. refl)
+      filled (label_step s bound) (λ (i : ℕ) (b : LabelBlock). Column (bound - 1) i b.labels) (λ x. refl)
       (λ x q. column-set _ q (one-is s x.block.line _ 0 bound _ refl).first-low)
       n _ (column-zeros (bound - 1) 128)
 
@@ -78,10 +78,10 @@ module _ (s : List ℕ) where
     pub from : Column (bound - 1) i b.from
     pub to : Column (bound - 1) i b.to
 
-  pub roads-filled : (l : Line) (n bound : ℕ) → RoadColumns bound n (roadBlock s l n bound)
-  unfolding roadBlock
+  pub roads-filled : (l : Line) (n bound : ℕ) → RoadColumns bound n (road_block s l n bound)
+  unfolding road_block
   roads-filled l n bound =
-      filled (roadStep s bound) (RoadColumns bound) (λ x. refl)
+      filled (road_step s bound) (RoadColumns bound) (λ x. refl)
       (λ x q. let t = road-low s x.block.line _ bound _ _ refl in record { from = column-set _ q.from t.0; to = column-set _ q.to t.1 })
       n _ (record { from = column-zeros (bound - 1) 1024; to = column-zeros (bound - 1) 1024 })
 
@@ -92,10 +92,10 @@ module _ (s : List ℕ) where
     pub any : Column (labels - 1) i b.any
     pub to : Column (q - 1) i b.to
 
-  pub moves-filled : (l : Line) (n q labels : ℕ) → MoveColumns q labels n (moveBlock s l n q labels)
-  unfolding moveBlock
+  pub moves-filled : (l : Line) (n q labels : ℕ) → MoveColumns q labels n (move_block s l n q labels)
+  unfolding move_block
   moves-filled l n q labels =
-      filled (moveStep s q labels) (MoveColumns q labels) (λ x. refl)
+      filled (move_step s q labels) (MoveColumns q labels) (λ x. refl)
       (λ x c. let t = move-is s x.block.line _ q labels _ refl in record {
         from = column-set _ c.from t.first-low;
         need = column-set _ c.need t.second-low;

@@ -1,7 +1,7 @@
 -- A road used to be allowed on two lines (02, note 6). Its refusal is all that moved: every file reads as it did, or it is turned away now for a
 -- doubled road, and then a road stands twice.
---   roadBefore, stepBefore, roadsBefore, mapBefore, readBefore
---                       == `roadLine`, `roadStep`, `roadBlock`, `mapOf` and `readPlan`, with roads on any number of lines
+--   road_before, step_before, roads_before, map_before, read_before
+--                       == `road_line`, `road_step`, `road_block`, `map_of` and `read_plan`, with roads on any number of lines
 --   AtDouble l          == l is the fault of a doubled road
 --   line-narrowed, roads-narrowed, map-narrowed, draft-narrowed
 --                       == lines, blocks, the map and the whole draft are what they were, or have such a fault; then a road stood twice in them
@@ -21,8 +21,8 @@ use lib.Dec.{eqb, ltb}
 use lib.ListN.{length, get_or, set, replicate, length-set, length-replicate}
 use lib.Seq.{get_or-set_same, get_or-set_other}
 use Rattle.base.proofs.Tests.{and_left, and_right, any-elim}
-use Rattle.text.specs.Scan.{key_at, nextNumber, value_of, line_at}
-use Rattle.text.specs.Line.{behind, pair, closed, lineOfOne, numbersOf, first_of, top, finish}
+use Rattle.text.specs.Scan.{key_at, next_number, value_of, line_at}
+use Rattle.text.specs.Line.{behind, pair, closed, line_of_one, numbers_of, first_of, top, finish}
 use Rattle.text.specs.declared.fault.Fault.{Fault}
 use Rattle.text.specs.declared.fault.Fault.TheVariants.{Doubled}
 use Rattle.text.specs.declared.read.Number.{Number}
@@ -33,11 +33,11 @@ use Rattle.text.specs.declared.line.Line.TheVariants as line
 use Rattle.text.proofs.Lines.{one-is}
 use Rattle.plan.specs.declared.Plan.{Plan}
 use Rattle.plan.specs.declared.Refusal.TheVariants as refusal
-use Rattle.reader.specs.Keys.{tourKey, marksKey, placesKey, startKey, roadsKey, roadKey, rulesKey}
-use Rattle.reader.specs.Line.{roadFits, once, roadLine, move_line}
-use Rattle.reader.specs.Blocks.{repeat, Filling, labelBlock, onLine, earlier, roadStep, roadBlock, hardBlock, softBlocks}
-use Rattle.reader.specs.Map.{mapOf}
-use Rattle.reader.specs.Reading.{draftFrom, draftOf, refuse, answer, answerTo, readPlan}
+use Rattle.reader.specs.Keys.{tour_key, marks_key, places_key, start_key, roads_key, road_key, rules_key}
+use Rattle.reader.specs.Line.{road_fits, once, road_line, move_line}
+use Rattle.reader.specs.Blocks.{repeat, Filling, label_block, on_line, earlier, road_step, road_block, hard_block, soft_blocks}
+use Rattle.reader.specs.Map.{map_of}
+use Rattle.reader.specs.Reading.{draft_from, draft_of, refuse, answer, answer_to, read_plan}
 use Rattle.reader.specs.declared.block.RoadBlock.{RoadBlock}
 use Rattle.reader.specs.declared.map.Map.{Map}
 use Rattle.reader.specs.declared.Draft.{Draft}
@@ -48,37 +48,37 @@ use Rattle.reader.proofs.WellRead.{answer-plan}
 use Rattle.reader.proofs.Singles.{Twice, Single, single-twice, read-single}
 
 -- reading as it was
-unfoldable pub roadBefore : List ℕ → Line → List ℕ → ℕ → Line
-roadBefore s prior key bound =
+unfoldable pub road_before : List ℕ → Line → List ℕ → ℕ → Line
+road_before s prior key bound =
     behind prior
     (λ at.
-    let a = nextNumber s (key_at s at key) 44 in
-    let b = nextNumber s a 10 in
+    let a = next_number s (key_at s at key) 44 in
+    let b = next_number s a 10 in
     let xs = pair (value_of a) (value_of b) in
-    closed s at b (roadFits xs bound) xs)
+    closed s at b (road_fits xs bound) xs)
 
-abbrev pub stepBefore : List ℕ → ℕ → Filling RoadBlock → Filling RoadBlock
-stepBefore s bound x =
-    let l = roadBefore s x.block.line roadKey bound in
-    let xs = numbersOf l in
+abbrev pub step_before : List ℕ → ℕ → Filling RoadBlock → Filling RoadBlock
+step_before s bound x =
+    let l = road_before s x.block.line road_key bound in
+    let xs = numbers_of l in
     record {
       next = x.next + 1;
       block = record { line = l; from = set x.block.from x.next xs.first; to = set x.block.to x.next xs.second };
     }
 
-unfoldable pub roadsBefore : List ℕ → Line → ℕ → ℕ → RoadBlock
-roadsBefore s prior n bound =
-    (repeat n (stepBefore s bound) (record { next = 0; block = record { line = prior; from = replicate 1024 0; to = replicate 1024 0 } })).block
+unfoldable pub roads_before : List ℕ → Line → ℕ → ℕ → RoadBlock
+roads_before s prior n bound =
+    (repeat n (step_before s bound) (record { next = 0; block = record { line = prior; from = replicate 1024 0; to = replicate 1024 0 } })).block
 
-unfoldable pub mapBefore : List ℕ → Map
-mapBefore s =
-    let tour = lineOfOne s top tourKey 1 2 in
-    let marks = lineOfOne s tour marksKey 0 9 in
-    let places = lineOfOne s marks placesKey 1 129 in
-    let labels = labelBlock s places (first_of places) (2 ^ first_of marks) in
-    let start = lineOfOne s labels.line startKey 0 (first_of places) in
-    let count = lineOfOne s start roadsKey 0 1025 in
-    let roads = roadsBefore s count (first_of count) (first_of places) in
+unfoldable pub map_before : List ℕ → Map
+map_before s =
+    let tour = line_of_one s top tour_key 1 2 in
+    let marks = line_of_one s tour marks_key 0 9 in
+    let places = line_of_one s marks places_key 1 129 in
+    let labels = label_block s places (first_of places) (2 ^ first_of marks) in
+    let start = line_of_one s labels.line start_key 0 (first_of places) in
+    let count = line_of_one s start roads_key 0 1025 in
+    let roads = roads_before s count (first_of count) (first_of places) in
     record {
       line = roads.line;
       marks = first_of marks;
@@ -90,8 +90,8 @@ mapBefore s =
       to = roads.to;
     }
 
-unfoldable pub readBefore : List ℕ → Reading
-readBefore s = answerTo s (draftFrom s (mapBefore s))
+unfoldable pub read_before : List ℕ → Reading
+read_before s = answer_to s (draft_from s (map_before s))
 
 pub record AtDouble (l : Line) : Type 0 where
   pub told : ℕ
@@ -102,7 +102,7 @@ behind-double : {l r : Line} → AtDouble l → ((f : Fault) → l ≡ line.Faul
 behind-double d h = record { told = d.told; fault = h _ d.fault }
 
 stays : (s : List ℕ) → Sticky s AtDouble
-unfolding lineOfOne roadLine move_line
+unfolding line_of_one road_line move_line
 stays s = record {
   one = λ l key low bound d. behind-double d (λ f e. rw e);
   road = λ l key bound again d. behind-double d (λ f e. rw e);
@@ -112,7 +112,7 @@ stays s = record {
 -- a line: as it was, or doubled; then it had numbers that are so
 pub record Again (again : Numbers → Bool) (l r : Line) : Type 0 where
   pub at-double : AtDouble l
-  pub again-there : again (numbersOf r) ≡ true
+  pub again-there : again (numbers_of r) ≡ true
 
 module _ (s : List ℕ) where
   once-narrowed : (at : ℕ) (again : Numbers → Bool) (b : Number) (fit : Bool) (xs : Numbers)
@@ -128,12 +128,12 @@ module _ (s : List ℕ) where
       by false e = inl (rw e)
 
   pub line-narrowed : (l : Line) (key : List ℕ) (bound : ℕ) (again : Numbers → Bool)
-      → (roadLine s l key bound again ≡ roadBefore s l key bound) ⊎ Again again (roadLine s l key bound again) (roadBefore s l key bound)
-  unfolding roadLine roadBefore
+      → (road_line s l key bound again ≡ road_before s l key bound) ⊎ Again again (road_line s l key bound again) (road_before s l key bound)
+  unfolding road_line road_before
   line-narrowed (line.Fault f) key bound again = inl refl
   line-narrowed (line.Numbers xs c) key bound again =
-      let a = nextNumber s (key_at s c.at key) 44 in let b = nextNumber s a 10 in let ys = pair (value_of a) (value_of b) in
-      once-narrowed c.at again b (roadFits ys bound) ys
+      let a = next_number s (key_at s c.at key) 44 in let b = next_number s a 10 in let ys = pair (value_of a) (value_of b) in
+      once-narrowed c.at again b (road_fits ys bound) ys
 
   -- a road more leaves what stood twice, and a pair that an earlier line has stands twice then
   twice-more : (from to : List ℕ) (n x y : ℕ) → Twice from to n → Twice (set from n x) (set to n y) (n + 1)
@@ -155,7 +155,7 @@ module _ (s : List ℕ) where
   twice-new : (b : RoadBlock) (n : ℕ) (xs : Numbers) → n < length b.from → n < length b.to → earlier b n xs ≡ true
       → Twice (set b.from n xs.first) (set b.to n xs.second) (n + 1)
   twice-new b n xs hf ht e =
-      let f = any-elim (onLine b xs) n e in
+      let f = any-elim (on_line b xs) n e in
       let u = f.0 in
       record {
         one = u;
@@ -185,29 +185,29 @@ module _ (s : List ℕ) where
     pub to : length y.block.to ≡ 1024
     pub left : y.next + n ≤ 1024
 
-  step-narrowed : (bound n : ℕ) (x y : Filling RoadBlock) → Roomy (suc n) y → Alike x y → Alike (roadStep s bound x) (stepBefore s bound y)
-  step-narrowed bound n x y room (inl e) = by (line-narrowed y.block.line roadKey bound (earlier y.block y.next))
+  step-narrowed : (bound n : ℕ) (x y : Filling RoadBlock) → Roomy (suc n) y → Alike x y → Alike (road_step s bound x) (step_before s bound y)
+  step-narrowed bound n x y room (inl e) = by (line-narrowed y.block.line road_key bound (earlier y.block y.next))
     where
-      by : (roadLine s y.block.line roadKey bound (earlier y.block y.next) ≡ roadBefore s y.block.line roadKey bound)
-          ⊎ Again (earlier y.block y.next) (roadLine s y.block.line roadKey bound (earlier y.block y.next)) (roadBefore s y.block.line roadKey bound)
-          → Alike (roadStep s bound x) (stepBefore s bound y)
+      by : (road_line s y.block.line road_key bound (earlier y.block y.next) ≡ road_before s y.block.line road_key bound)
+          ⊎ Again (earlier y.block y.next) (road_line s y.block.line road_key bound (earlier y.block y.next)) (road_before s y.block.line road_key bound)
+          → Alike (road_step s bound x) (step_before s bound y)
       by (inl d) = inl (rw (e, d))
       by (inr a) = inr (record {
         at-double = rw e a.at-double;
-        twice = twice-new y.block y.next (numbersOf (roadBefore s y.block.line roadKey bound)) (omega (arith, room.from, room.left)) (omega (arith, room.to, room.left)) a.again-there;
+        twice = twice-new y.block y.next (numbers_of (road_before s y.block.line road_key bound)) (omega (arith, room.from, room.left)) (omega (arith, room.to, room.left)) a.again-there;
       })
   step-narrowed bound n x y room (inr p) =
-      inr (record { at-double = (stays s).road x.block.line roadKey bound _ p.at-double; twice = twice-more _ _ _ _ _ p.twice })
+      inr (record { at-double = (stays s).road x.block.line road_key bound _ p.at-double; twice = twice-more _ _ _ _ _ p.twice })
 
   repeat-narrowed : (bound n : ℕ) (x y : Filling RoadBlock) → Roomy n y → Alike x y
-      → ((repeat n (roadStep s bound) x).block ≡ (repeat n (stepBefore s bound) y).block)
-      ⊎ Stopped (y.next + n) (repeat n (roadStep s bound) x).block (repeat n (stepBefore s bound) y).block
+      → ((repeat n (road_step s bound) x).block ≡ (repeat n (step_before s bound) y).block)
+      ⊎ Stopped (y.next + n) (repeat n (road_step s bound) x).block (repeat n (step_before s bound) y).block
   unfolding repeat
   repeat-narrowed bound zero x y room (inl e) = inl (rw e)
   repeat-narrowed bound zero x y room (inr p) = let e : y.next + 0 ≡ y.next = omega arith in inr (rw e p)
   repeat-narrowed bound (suc n) x y room a =
       let e : y.next + suc n ≡ y.next + 1 + n = omega arith in
-      rw e (repeat-narrowed bound n (roadStep s bound x) (stepBefore s bound y)
+      rw e (repeat-narrowed bound n (road_step s bound x) (step_before s bound y)
       (record {
         from = length-set y.block.from y.next _ ∙ room.from;
         to = length-set y.block.to y.next _ ∙ room.to;
@@ -216,8 +216,8 @@ module _ (s : List ℕ) where
       (step-narrowed bound n x y room a))
 
   from-narrowed : (bound n : ℕ) (b : RoadBlock) → length b.from ≡ 1024 → length b.to ≡ 1024 → n ≤ 1024
-      → ((repeat n (roadStep s bound) (record { next = 0; block = b })).block ≡ (repeat n (stepBefore s bound) (record { next = 0; block = b })).block)
-      ⊎ Stopped n (repeat n (roadStep s bound) (record { next = 0; block = b })).block (repeat n (stepBefore s bound) (record { next = 0; block = b })).block
+      → ((repeat n (road_step s bound) (record { next = 0; block = b })).block ≡ (repeat n (step_before s bound) (record { next = 0; block = b })).block)
+      ⊎ Stopped n (repeat n (road_step s bound) (record { next = 0; block = b })).block (repeat n (step_before s bound) (record { next = 0; block = b })).block
   from-narrowed bound n b hf ht h =
       let e : n ≡ 0 + n = omega arith in
       subst (λ k. (x ≡ y) ⊎ Stopped k x y) (sym e) (repeat-narrowed bound n start start (record { from = hf; to = ht; left = omega arith }) (inl refl))
@@ -226,39 +226,39 @@ module _ (s : List ℕ) where
       start = record { next = 0; block = b }
 
       x : RoadBlock
-      x = (repeat n (roadStep s bound) start).block
+      x = (repeat n (road_step s bound) start).block
 
       y : RoadBlock
-      y = (repeat n (stepBefore s bound) start).block
+      y = (repeat n (step_before s bound) start).block
 
   pub roads-narrowed : (l : Line) (n bound : ℕ) → n ≤ 1024
-      → (roadBlock s l n bound ≡ roadsBefore s l n bound) ⊎ Stopped n (roadBlock s l n bound) (roadsBefore s l n bound)
-  unfolding roadBlock roadsBefore
+      → (road_block s l n bound ≡ roads_before s l n bound) ⊎ Stopped n (road_block s l n bound) (roads_before s l n bound)
+  unfolding road_block roads_before
   roads-narrowed l n bound h = from-narrowed bound n _ (length-replicate {A = ℕ} 1024 0) (length-replicate {A = ℕ} 1024 0) h
 
   -- two roads of the map as it was are the same
   abbrev pub TwiceBefore : Type 0
-  TwiceBefore = Twice (mapBefore s).from (mapBefore s).to (mapBefore s).roads
+  TwiceBefore = Twice (map_before s).from (map_before s).to (map_before s).roads
 
-  pub map-narrowed : (mapOf s ≡ mapBefore s) ⊎ (AtDouble (mapOf s).line × TwiceBefore)
-  unfolding mapOf mapBefore
-  map-narrowed = by (roads-narrowed count (first_of count) (first_of places) (omega (arith, (one-is s start roadsKey 0 1025 count refl).first-low)))
+  pub map-narrowed : (map_of s ≡ map_before s) ⊎ (AtDouble (map_of s).line × TwiceBefore)
+  unfolding map_of map_before
+  map-narrowed = by (roads-narrowed count (first_of count) (first_of places) (omega (arith, (one-is s start roads_key 0 1025 count refl).first-low)))
     where
       marks : Line
-      marks = lineOfOne s (lineOfOne s top tourKey 1 2) marksKey 0 9
+      marks = line_of_one s (line_of_one s top tour_key 1 2) marks_key 0 9
 
       places : Line
-      places = lineOfOne s marks placesKey 1 129
+      places = line_of_one s marks places_key 1 129
 
       start : Line
-      start = lineOfOne s (labelBlock s places (first_of places) (2 ^ first_of marks)).line startKey 0 (first_of places)
+      start = line_of_one s (label_block s places (first_of places) (2 ^ first_of marks)).line start_key 0 (first_of places)
 
       count : Line
-      count = lineOfOne s start roadsKey 0 1025
+      count = line_of_one s start roads_key 0 1025
 
-      by : (roadBlock s count (first_of count) (first_of places) ≡ roadsBefore s count (first_of count) (first_of places))
-          ⊎ Stopped (first_of count) (roadBlock s count (first_of count) (first_of places)) (roadsBefore s count (first_of count) (first_of places))
-          → (mapOf s ≡ mapBefore s) ⊎ (AtDouble (mapOf s).line × TwiceBefore)
+      by : (road_block s count (first_of count) (first_of places) ≡ roads_before s count (first_of count) (first_of places))
+          ⊎ Stopped (first_of count) (road_block s count (first_of count) (first_of places)) (roads_before s count (first_of count) (first_of places))
+          → (map_of s ≡ map_before s) ⊎ (AtDouble (map_of s).line × TwiceBefore)
       by (inl e) = inl (rw e)
       by (inr p) = inr (p.at-double, p.twice)
 
@@ -266,61 +266,61 @@ module _ (s : List ℕ) where
   unfolding finish
   finish-double l d = behind-double d (λ f e. rw e)
 
-  pub draft-narrowed : (draftOf s ≡ draftFrom s (mapBefore s)) ⊎ (AtDouble (draftOf s).line × TwiceBefore)
-  unfolding draftOf
+  pub draft-narrowed : (draft_of s ≡ draft_from s (map_before s)) ⊎ (AtDouble (draft_of s).line × TwiceBefore)
+  unfolding draft_of
   draft-narrowed = by map-narrowed
     where
-      by : (mapOf s ≡ mapBefore s) ⊎ (AtDouble (mapOf s).line × TwiceBefore)
-          → (draftOf s ≡ draftFrom s (mapBefore s)) ⊎ (AtDouble (draftOf s).line × TwiceBefore)
-      by (inl e) = inl (ap (draftFrom s) e)
+      by : (map_of s ≡ map_before s) ⊎ (AtDouble (map_of s).line × TwiceBefore)
+          → (draft_of s ≡ draft_from s (map_before s)) ⊎ (AtDouble (draft_of s).line × TwiceBefore)
+      by (inl e) = inl (ap (draft_from s) e)
       by (inr d) =
-          let bound = 2 ^ (mapOf s).marks in
-          let hard = hardBlock s (mapOf s).line bound in
-          let count = lineOfOne s hard.line rulesKey 0 9 in
+          let bound = 2 ^ (map_of s).marks in
+          let hard = hard_block s (map_of s).line bound in
+          let count = line_of_one s hard.line rules_key 0 9 in
           inr (
-            finish-double (softBlocks s count (first_of count) bound).line
+            finish-double (soft_blocks s count (first_of count) bound).line
                 (softs-keep s AtDouble (stays s) count (first_of count) bound
-                ((stays s).one hard.line rulesKey 0 9 (hard-keeps s AtDouble (stays s) (mapOf s).line bound d.0))),
+                ((stays s).one hard.line rules_key 0 9 (hard-keeps s AtDouble (stays s) (map_of s).line bound d.0))),
             d.1,
           )
 
 pub record Turned (s : List ℕ) : Type 0 where
   pub told : ℕ
-  pub refused : readPlan s ≡ refuse (refusal.Line (Doubled told))
+  pub refused : read_plan s ≡ refuse (refusal.Line (Doubled told))
   pub twice : TwiceBefore s
 
 answer-double : (l : Line) (p : Plan) (d : AtDouble l) → answer l p ≡ refuse (refusal.Line (Doubled d.told))
 unfolding answer
 answer-double l p d = rw d.fault
 
-pub read-narrowed : (s : List ℕ) → (readPlan s ≡ readBefore s) ⊎ Turned s
-unfolding readPlan readBefore
+pub read-narrowed : (s : List ℕ) → (read_plan s ≡ read_before s) ⊎ Turned s
+unfolding read_plan read_before
 read-narrowed s = by (ltb 60000 (length s)) refl (draft-narrowed s)
   where
-    by : (t : Bool) → ltb 60000 (length s) ≡ t → (draftOf s ≡ draftFrom s (mapBefore s)) ⊎ (AtDouble (draftOf s).line × TwiceBefore s)
-        → (readPlan s ≡ readBefore s) ⊎ Turned s
+    by : (t : Bool) → ltb 60000 (length s) ≡ t → (draft_of s ≡ draft_from s (map_before s)) ⊎ (AtDouble (draft_of s).line × TwiceBefore s)
+        → (read_plan s ≡ read_before s) ⊎ Turned s
     by true e d = inl (rw e)
-    by false e (inl d) = inl (ap (answerTo s) d)
-    by false e (inr d) = inr (record { told = d.0.told; refused = rw e (answer-double (draftOf s).line (draftOf s).plan d.0); twice = d.1 })
+    by false e (inl d) = inl (ap (answer_to s) d)
+    by false e (inr d) = inr (record { told = d.0.told; refused = rw e (answer-double (draft_of s).line (draft_of s).plan d.0); twice = d.1 })
 
 -- what is refused is no plan
-turned-no-plan : {s : List ℕ} → Turned s → (readPlan s).outcome ≡ outcome.Plan → ⊥
+turned-no-plan : {s : List ℕ} → Turned s → (read_plan s).outcome ≡ outcome.Plan → ⊥
 turned-no-plan t e = let z : ◌≡◌ {A = ℕ} 0 1 = cc (sym e ∙ ap (λ (r : Reading). r.outcome) t.refused) in omega arith
 
-pub passed-as-before : (s : List ℕ) → (readPlan s).outcome ≡ outcome.Plan → readPlan s ≡ readBefore s
+pub passed-as-before : (s : List ℕ) → (read_plan s).outcome ≡ outcome.Plan → read_plan s ≡ read_before s
 passed-as-before s passed = by (read-narrowed s)
   where
-    by : (readPlan s ≡ readBefore s) ⊎ Turned s → readPlan s ≡ readBefore s
+    by : (read_plan s ≡ read_before s) ⊎ Turned s → read_plan s ≡ read_before s
     by (inl e) = e
     by (inr t) = absurd (turned-no-plan t passed)
 
-module _ (s : List ℕ) (passed : (readBefore s).outcome ≡ outcome.Plan) where
+module _ (s : List ℕ) (passed : (read_before s).outcome ≡ outcome.Plan) where
   -- the plan of a file that passed before has the roads that the map had
   abbrev old : Draft
-  old = draftFrom s (mapBefore s)
+  old = draft_from s (map_before s)
 
-  old-plan : (readBefore s).plan ≡ old.plan
-  unfolding readBefore
+  old-plan : (read_before s).plan ≡ old.plan
+  unfolding read_before
   old-plan = by (ltb 60000 (length s)) passed
     where
       by : (t : Bool) → (cond t (refuse refusal.PlanTooLong) (answer old.line old.plan)).outcome ≡ outcome.Plan
@@ -328,18 +328,18 @@ module _ (s : List ℕ) (passed : (readBefore s).outcome ≡ outcome.Plan) where
       by true e = let z : ◌≡◌ {A = ℕ} 0 1 = cc in absurd (omega arith)
       by false e = (answer-plan old.line old.plan e).same
 
-  pub single-as-before : Single (readBefore s).plan.from (readBefore s).plan.to (readBefore s).plan.roads → readPlan s ≡ readBefore s
+  pub single-as-before : Single (read_before s).plan.from (read_before s).plan.to (read_before s).plan.roads → read_plan s ≡ read_before s
   single-as-before single = by (read-narrowed s)
     where
-      by : (readPlan s ≡ readBefore s) ⊎ Turned s → readPlan s ≡ readBefore s
+      by : (read_plan s ≡ read_before s) ⊎ Turned s → read_plan s ≡ read_before s
       by (inl e) = e
       by (inr t) = absurd (single-twice (subst (λ (p : Plan). Single p.from p.to p.roads) old-plan single) t.twice)
 
-  pub twice-turned : Twice (readBefore s).plan.from (readBefore s).plan.to (readBefore s).plan.roads → Turned s
+  pub twice-turned : Twice (read_before s).plan.from (read_before s).plan.to (read_before s).plan.roads → Turned s
   twice-turned twice = by (read-narrowed s)
     where
-      by : (readPlan s ≡ readBefore s) ⊎ Turned s → Turned s
+      by : (read_plan s ≡ read_before s) ⊎ Turned s → Turned s
       by (inl e) =
-          let now : (readPlan s).outcome ≡ outcome.Plan = ap (λ (r : Reading). r.outcome) e ∙ passed in
+          let now : (read_plan s).outcome ≡ outcome.Plan = ap (λ (r : Reading). r.outcome) e ∙ passed in
           absurd (single-twice (subst (λ (r : Reading). Single r.plan.from r.plan.to r.plan.roads) e (read-single s now)) twice)
       by (inr t) = t

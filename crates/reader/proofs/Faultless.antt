@@ -9,12 +9,12 @@ use native.Mathlib.Decide.{ℕ_discrete}
 use lib.ListN.{length, get_or, length-set}
 use lib.Seq.{get_or-set_same, get_or-set_other}
 use Rattle.automata.specs.WellFormed as automaton
-use Rattle.automata.specs.WellFormed.{ZeroFrom, noAutomaton}
+use Rattle.automata.specs.WellFormed.{ZeroFrom, no_automaton}
 use Rattle.automata.specs.declared.Automaton.{Automaton}
-use Rattle.text.specs.Line.{lineOfOne, first_of, finish, good}
-use Rattle.reader.specs.Line.{roadLine, move_line}
-use Rattle.reader.specs.Keys.{firstKey, acceptKey, movesKey, hardKey, softKey, weightKey}
-use Rattle.reader.specs.Blocks.{Filling, moveBlock, automatonBlock, hardBlock, weightLine, softBlock, softStep, softBlocks}
+use Rattle.text.specs.Line.{line_of_one, first_of, finish, good}
+use Rattle.reader.specs.Line.{road_line, move_line}
+use Rattle.reader.specs.Keys.{first_key, accept_key, moves_key, hard_key, soft_key, weight_key}
+use Rattle.reader.specs.Blocks.{Filling, move_block, automaton_block, hard_block, weight_line, soft_block, soft_step, soft_blocks}
 use Rattle.text.specs.declared.line.Numbers.{Numbers}
 use Rattle.text.specs.declared.line.Line.{Line}
 use Rattle.text.specs.declared.line.Line.TheVariants as line
@@ -33,8 +33,8 @@ led-faulty s Q l (line.Fault f) g p = refl
 
 pub faulty : (s : List ℕ) → Sticky s Faulty
 faulty s = record {
-  one = λ l key low bound. led-faulty s _ l (lineOfOne s l key low bound) (one-led s l key low bound);
-  road = λ l key bound again. led-faulty s _ l (roadLine s l key bound again) (road-led s l key bound again);
+  one = λ l key low bound. led-faulty s _ l (line_of_one s l key low bound) (one-led s l key low bound);
+  road = λ l key bound again. led-faulty s _ l (road_line s l key bound again) (road-led s l key bound again);
   move = λ l key q labels. led-faulty s _ l (move_line s l key q labels) (move-led s l key q labels);
 }
 
@@ -59,35 +59,35 @@ led-good s low bound l (line.Numbers xs c) g e =
     record { was = g.0; least = h.0; below = h.1 }
 led-good s low bound l (line.Fault f) g e = let z : ◌≡◌ {A = ℕ} 0 1 = cc in absurd (omega arith)
 
-pub one-good : (s : List ℕ) (l : Line) (key : List ℕ) (low bound : ℕ) → good (lineOfOne s l key low bound) ≡ true
-    → OneGood low bound l (lineOfOne s l key low bound)
-one-good s l key low bound = led-good s low bound l (lineOfOne s l key low bound) (one-led s l key low bound)
+pub one-good : (s : List ℕ) (l : Line) (key : List ℕ) (low bound : ℕ) → good (line_of_one s l key low bound) ≡ true
+    → OneGood low bound l (line_of_one s l key low bound)
+one-good s l key low bound = led-good s low bound l (line_of_one s l key low bound) (one-led s l key low bound)
 
 -- an automaton's lines
-module _ (s : List ℕ) (l : Line) (q labels : ℕ) (e : good (automatonBlock s l q labels).line ≡ true) where
+module _ (s : List ℕ) (l : Line) (q labels : ℕ) (e : good (automaton_block s l q labels).line ≡ true) where
   abbrev first-line : Line
-  first-line = lineOfOne s l firstKey 0 q
+  first-line = line_of_one s l first_key 0 q
 
   abbrev accept-line : Line
-  accept-line = lineOfOne s first-line acceptKey 0 (2 ^ q)
+  accept-line = line_of_one s first-line accept_key 0 (2 ^ q)
 
   abbrev count-line : Line
-  count-line = lineOfOne s accept-line movesKey 0 65
+  count-line = line_of_one s accept-line moves_key 0 65
 
   count-good : OneGood 0 65 accept-line count-line
-  unfolding automatonBlock
+  unfolding automaton_block
   count-good =
-      one-good s accept-line movesKey 0 65
-      (was-good count-line (moveBlock s count-line (first_of count-line) q labels).line (moves-keep s Faulty (faulty s) count-line (first_of count-line) q labels) e)
+      one-good s accept-line moves_key 0 65
+      (was-good count-line (move_block s count-line (first_of count-line) q labels).line (moves-keep s Faulty (faulty s) count-line (first_of count-line) q labels) e)
 
   accept-good : OneGood 0 (2 ^ q) first-line accept-line
-  accept-good = one-good s first-line acceptKey 0 (2 ^ q) count-good.was
+  accept-good = one-good s first-line accept_key 0 (2 ^ q) count-good.was
 
   first_good : OneGood 0 q l first-line
-  first_good = one-good s l firstKey 0 q accept-good.was
+  first_good = one-good s l first_key 0 q accept-good.was
 
-  automaton-read : (most : ℕ) → 1 ≤ q → q ≤ most → 1 ≤ labels → automaton.WellFormed most labels (automatonBlock s l q labels).automaton
-  unfolding automatonBlock
+  automaton-read : (most : ℕ) → 1 ≤ q → q ≤ most → 1 ≤ labels → automaton.WellFormed most labels (automaton_block s l q labels).automaton
+  unfolding automaton_block
   automaton-read most o h m =
       let n = first_of count-line in
       let x = moves-filled s count-line n q labels in
@@ -114,20 +114,20 @@ pub record SoftRead (labels : ℕ) (a : Automaton) (w : ℕ) : Type 0 where
   pub heavy : w ≤ 4000000
 
 module _ (s : List ℕ) (l : Line) (labels : ℕ) (m : 1 ≤ labels) where
-  pub hard-read : good (hardBlock s l labels).line ≡ true → automaton.WellFormed 16 labels (hardBlock s l labels).automaton
-  unfolding hardBlock
+  pub hard-read : good (hard_block s l labels).line ≡ true → automaton.WellFormed 16 labels (hard_block s l labels).automaton
+  unfolding hard_block
   hard-read e =
-      let states = lineOfOne s l hardKey 1 17 in
-      let h = one-good s l hardKey 1 17 (first_good s states (first_of states) labels e).was in
+      let states = line_of_one s l hard_key 1 17 in
+      let h = one-good s l hard_key 1 17 (first_good s states (first_of states) labels e).was in
       automaton-read s states (first_of states) labels e 16 h.least (omega (arith, h.below)) m
 
-  soft-read : good (softBlock s l labels).line ≡ true → SoftRead labels (softBlock s l labels).automaton (softBlock s l labels).weight
-  unfolding softBlock
+  soft-read : good (soft_block s l labels).line ≡ true → SoftRead labels (soft_block s l labels).automaton (soft_block s l labels).weight
+  unfolding soft_block
   soft-read e =
-      let states = lineOfOne s l softKey 1 9 in
-      let weight = weightLine s states in
-      let w = one-good s states weightKey _ _ (first_good s weight (first_of states) labels e).was in
-      let h = one-good s l softKey 1 9 w.was in
+      let states = line_of_one s l soft_key 1 9 in
+      let weight = weight_line s states in
+      let w = one-good s states weight_key _ _ (first_good s weight (first_of states) labels e).was in
+      let h = one-good s l soft_key 1 9 w.was in
       record {
         well = automaton-read s weight (first_of states) labels e 8 h.least (omega (arith, h.below)) m;
         heavy = omega (arith, w.below);
@@ -137,45 +137,45 @@ module _ (s : List ℕ) (l : Line) (labels : ℕ) (m : 1 ≤ labels) where
 pub record SoftsRead (labels i : ℕ) (b : SoftBlocks) : Type 0 where
   pub room : length b.soft ≡ 8
   pub weight-room : length b.weights ≡ 8
-  pub read : good b.line ≡ true → (k : ℕ) → k < i → k < 8 → SoftRead labels (get_or b.soft k noAutomaton) (get_or b.weights k 0)
-  pub rest : (k : ℕ) → i ≤ k → get_or b.soft k noAutomaton ≡ noAutomaton
+  pub read : good b.line ≡ true → (k : ℕ) → k < i → k < 8 → SoftRead labels (get_or b.soft k no_automaton) (get_or b.weights k 0)
+  pub rest : (k : ℕ) → i ≤ k → get_or b.soft k no_automaton ≡ no_automaton
   pub rest-weights : ZeroFrom i b.weights
 
 module _ (s : List ℕ) (labels : ℕ) (m : 1 ≤ labels) where
   module _ (x : Filling SoftBlocks) (p : SoftsRead labels x.next x.block) where
-    soft-put : good (softStep s labels x).block.line ≡ true → (k : ℕ) → k < x.next + 1 → k < 8 → Dec (k ≡ x.next)
-        → SoftRead labels (get_or (softStep s labels x).block.soft k noAutomaton) (get_or (softStep s labels x).block.weights k 0)
+    soft-put : good (soft_step s labels x).block.line ≡ true → (k : ℕ) → k < x.next + 1 → k < 8 → Dec (k ≡ x.next)
+        → SoftRead labels (get_or (soft_step s labels x).block.soft k no_automaton) (get_or (soft_step s labels x).block.weights k 0)
     soft-put e k h b (yes d) =
-        let y = softBlock s x.block.line labels in
+        let y = soft_block s x.block.line labels in
         let o : x.next < length x.block.soft = omega (arith, p.room) in
         let u : x.next < length x.block.weights = omega (arith, p.weight-room) in
-        rw (d, get_or-set_same x.block.soft x.next y.automaton noAutomaton o, get_or-set_same x.block.weights x.next y.weight 0 u)
+        rw (d, get_or-set_same x.block.soft x.next y.automaton no_automaton o, get_or-set_same x.block.weights x.next y.weight 0 u)
         (soft-read s x.block.line labels m e)
     soft-put e k h b (no d) =
-        let y = softBlock s x.block.line labels in
+        let y = soft_block s x.block.line labels in
         let g = was-good x.block.line y.line (soft-keeps s Faulty (faulty s) x.block.line labels) e in
-        rw (get_or-set_other x.block.soft x.next k y.automaton noAutomaton d, get_or-set_other x.block.weights x.next k y.weight 0 d)
+        rw (get_or-set_other x.block.soft x.next k y.automaton no_automaton d, get_or-set_other x.block.weights x.next k y.weight 0 d)
         (p.read g k (omega arith) b)
 
-    soft-step : SoftsRead labels (x.next + 1) (softStep s labels x).block
+    soft-step : SoftsRead labels (x.next + 1) (soft_step s labels x).block
     soft-step = record {
       room = simp length-set p.room;
       weight-room = simp length-set p.weight-room;
       read = λ e k h b. soft-put e k h b (ℕ_discrete k x.next);
       rest = λ k h.
           let d : k ≡ x.next → ⊥ = λ z. omega arith in
-          get_or-set_other x.block.soft x.next k (softBlock s x.block.line labels).automaton noAutomaton d ∙ p.rest k (omega arith);
+          get_or-set_other x.block.soft x.next k (soft_block s x.block.line labels).automaton no_automaton d ∙ p.rest k (omega arith);
       rest-weights = set_rest x.block.weights x.next _ p.rest-weights;
     }
 
-  pub softs-read : (l : Line) (n : ℕ) → SoftsRead labels n (softBlocks s l n labels)
-  unfolding softBlocks
+  pub softs-read : (l : Line) (n : ℕ) → SoftsRead labels n (soft_blocks s l n labels)
+  unfolding soft_blocks
   softs-read l n =
-      filled (softStep s labels) (SoftsRead labels) (λ x. refl) soft-step n _
+      filled (soft_step s labels) (SoftsRead labels) (λ x. refl) soft-step n _
       (record {
         room = refl;
         weight-room = refl;
         read = λ e k h b. absurd (omega arith);
-        rest = λ k h. all_same (λ a. a ≡ noAutomaton) noAutomaton refl 8 k;
+        rest = λ k h. all_same (λ a. a ≡ no_automaton) no_automaton refl 8 k;
         rest-weights = zeros-rest 8;
       })

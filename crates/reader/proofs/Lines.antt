@@ -14,8 +14,8 @@ use native.Mathlib.Omega.{arith}
 use lib.Dec.{ltb}
 use borrow.Author.Tests.{ltb-true}
 use Rattle.base.proofs.Tests.{and_left, and_right}
-use Rattle.text.specs.Scan.{key_at, nextNumber, elseNumber, either, value_of, line_at}
-use Rattle.text.specs.Line.{pair, badForm, judged, closed, numbersOf}
+use Rattle.text.specs.Scan.{key_at, next_number, else_number, either, value_of, line_at}
+use Rattle.text.specs.Line.{pair, bad_form, judged, closed, numbers_of}
 use Rattle.text.specs.declared.fault.Fault.{Fault}
 use Rattle.text.specs.declared.fault.Fault.TheVariants.{Range, Doubled}
 use Rattle.text.specs.declared.read.Number.{Number}
@@ -26,12 +26,12 @@ use Rattle.text.specs.declared.line.Line.{Line}
 use Rattle.text.specs.declared.line.Line.TheVariants as line
 use Rattle.text.proofs.Held.{Told}
 use Rattle.text.proofs.Lines.{same-below, judged-same, before, here, Led, closed-led, low}
-use Rattle.reader.specs.Line.{roadFits, once, roadLine, moveFits, move_line, notingLine, RoadRead, MoveRead}
+use Rattle.reader.specs.Line.{road_fits, once, road_line, move_fits, move_line, noting_line, RoadRead, MoveRead}
 
 abbrev pub numbers : ℕ → ℕ → ℕ → ℕ → ℕ → Numbers
 numbers a b c d e = record { first = a; second = b; third = c; fourth = d; fifth = e }
 
-move-tests : (xs : Numbers) (q labels : ℕ) → moveFits xs q labels ≡ true
+move-tests : (xs : Numbers) (q labels : ℕ) → move_fits xs q labels ≡ true
     → (ltb xs.first q ≡ true) × (ltb xs.second labels ≡ true) × (ltb xs.third labels ≡ true) × (ltb xs.fourth labels ≡ true)
     × (ltb xs.fifth q ≡ true)
 move-tests xs q labels h =
@@ -54,20 +54,20 @@ module _ (s : List ℕ) (at next : ℕ) where
   road-same again t false xs ys e f = rw e
 
   road-held : (again : Numbers → Bool) (v w x y bound : ℕ) → x ≡ min v 4000000000 → y ≡ min w 4000000000 → bound ≤ 4000000000
-      → road (again (pair x y)) (roadFits (pair x y) bound) (pair x y) ≡ road (again (pair v w)) (roadFits (pair v w) bound) (pair v w)
+      → road (again (pair x y)) (road_fits (pair x y) bound) (pair x y) ≡ road (again (pair v w)) (road_fits (pair v w) bound) (pair v w)
   road-held again v w x y bound e f h =
       let a = same-below v x bound e h in let b = same-below w y bound f h in
-      road-same again (roadFits (pair x y) bound) (roadFits (pair v w) bound) _ _ (rw (a.test, b.test))
+      road-same again (road_fits (pair x y) bound) (road_fits (pair v w) bound) _ _ (rw (a.test, b.test))
       (λ g. rw (a.passed (and_left _ _ g), b.passed (and_right (ltb v bound) _ g)))
 
   move-held : (v w t u b x y z a o q labels : ℕ) → x ≡ min v 4000000000 → y ≡ min w 4000000000 → z ≡ min t 4000000000
       → a ≡ min u 4000000000 → o ≡ min b 4000000000 → q ≤ 4000000000 → labels ≤ 4000000000
-      → judged s at next (moveFits (numbers x y z a o) q labels) (numbers x y z a o)
-      ≡ judged s at next (moveFits (numbers v w t u b) q labels) (numbers v w t u b)
+      → judged s at next (move_fits (numbers x y z a o) q labels) (numbers x y z a o)
+      ≡ judged s at next (move_fits (numbers v w t u b) q labels) (numbers v w t u b)
   move-held v w t u b x y z a o q labels e1 e2 e3 e4 e5 h k =
       let s1 = same-below v x q e1 h in let s2 = same-below w y labels e2 k in let s3 = same-below t z labels e3 k in
       let s4 = same-below u a labels e4 k in let s5 = same-below b o q e5 h in
-      judged-same s at next (moveFits (numbers x y z a o) q labels) (moveFits (numbers v w t u b) q labels) _ _
+      judged-same s at next (move_fits (numbers x y z a o) q labels) (move_fits (numbers v w t u b) q labels) _ _
       (rw (s1.test, s2.test, s3.test, s4.test, s5.test))
       (λ m.
       let f = move-tests (numbers v w t u b) q labels m in
@@ -75,8 +75,8 @@ module _ (s : List ℕ) (at next : ℕ) where
 
 -- a line that stands behind one with a fault
 module _ (s : List ℕ) (l : Line) (key : List ℕ) (f : Fault) (p : l ≡ line.Fault f) where
-  pub road-fault : (bound : ℕ) (again : Numbers → Bool) → l ≡ roadLine s l key bound again
-  unfolding roadLine
+  pub road-fault : (bound : ℕ) (again : Numbers → Bool) → l ≡ road_line s l key bound again
+  unfolding road_line
   road-fault bound again = rw p
 
   pub move-fault : (q labels : ℕ) → l ≡ move_line s l key q labels
@@ -86,60 +86,60 @@ module _ (s : List ℕ) (l : Line) (key : List ℕ) (f : Fault) (p : l ≡ line.
 -- a line that stands behind one without a fault
 module _ (s : List ℕ) (l : Line) (key : List ℕ) (xs : Numbers) (c : Cursor) (p : l ≡ line.Numbers xs c) where
   abbrev first : ℕ → Number
-  first e = nextNumber s (key_at s c.at key) e
+  first e = next_number s (key_at s c.at key) e
 
-  pub road-bad : (bound : ℕ) (again : Numbers → Bool) → nextNumber s (first 44) 10 ≡ Bad → badForm s c.at ≡ roadLine s l key bound again
-  unfolding roadLine
+  pub road-bad : (bound : ℕ) (again : Numbers → Bool) → next_number s (first 44) 10 ≡ Bad → bad_form s c.at ≡ road_line s l key bound again
+  unfolding road_line
   road-bad bound again e = rw (p, e)
 
   pub road-good : (bound : ℕ) (again : Numbers → Bool) (x y n : ℕ) (ys : Numbers) → bound ≤ 4000000000 → x ≡ min (value_of (first 44)) 4000000000
-      → Told (nextNumber s (first 44) 10) y n → ys ≡ pair x y → road s c.at n (again ys) (roadFits ys bound) ys ≡ roadLine s l key bound again
-  unfolding roadLine
+      → Told (next_number s (first 44) 10) y n → ys ≡ pair x y → road s c.at n (again ys) (road_fits ys bound) ys ≡ road_line s l key bound again
+  unfolding road_line
   road-good bound again x y n ys h a b e = rw e (road-held s c.at n again _ _ x y bound a b.held h ∙ rw (p, b.is))
 
   -- the numbers of a move: the third, the one behind it where that is not the last, and the last
   abbrev third : Number
-  third = nextNumber s (nextNumber s (first 44) 44) 44
+  third = next_number s (next_number s (first 44) 44) 44
 
   abbrev any : Number
-  any = elseNumber s (nextNumber s third 10) third 44
+  any = else_number s (next_number s third 10) third 44
 
   abbrev last : Number
-  last = either (nextNumber s third 10) (nextNumber s any 10)
+  last = either (next_number s third 10) (next_number s any 10)
 
-  pub move-bad : (q labels : ℕ) → last ≡ Bad → badForm s c.at ≡ move_line s l key q labels
+  pub move-bad : (q labels : ℕ) → last ≡ Bad → bad_form s c.at ≡ move_line s l key q labels
   unfolding move_line
   move-bad q labels e = rw (p, e)
 
   pub move-good : (q labels x y z a o n : ℕ) → q ≤ 4000000000 → labels ≤ 4000000000 → x ≡ min (value_of (first 44)) 4000000000
-      → y ≡ min (value_of (nextNumber s (first 44) 44)) 4000000000 → z ≡ min (value_of third) 4000000000
+      → y ≡ min (value_of (next_number s (first 44) 44)) 4000000000 → z ≡ min (value_of third) 4000000000
       → a ≡ min (value_of any) 4000000000 → Told last o n
-      → judged s c.at n (moveFits (numbers x y z a o) q labels) (numbers x y z a o) ≡ move_line s l key q labels
+      → judged s c.at n (move_fits (numbers x y z a o) q labels) (numbers x y z a o) ≡ move_line s l key q labels
   unfolding move_line
   move-good q labels x y z a o n h g e1 e2 e3 e4 e5 =
       move-held s c.at n _ _ _ _ _ x y z a o q labels e1 e2 e3 e4 e5.held h g ∙ rw (p, e5.is)
 
 -- the three ends of a road line of good form
 module _ (s : List ℕ) (at next : ℕ) (xs : Numbers) (bound : ℕ) (again : Numbers → Bool) where
-  pub road-doubled : (k : ℕ) → k ≡ line_at s at → roadFits xs bound ≡ true → again xs ≡ true
-      → line.Fault (Doubled k) ≡ road s at next (again xs) (roadFits xs bound) xs
+  pub road-doubled : (k : ℕ) → k ≡ line_at s at → road_fits xs bound ≡ true → again xs ≡ true
+      → line.Fault (Doubled k) ≡ road s at next (again xs) (road_fits xs bound) xs
   road-doubled k e f g = rw (e, f, g)
 
-  pub road-passed : roadFits xs bound ≡ true → again xs ≡ false
-      → line.Numbers xs (record { at = next }) ≡ road s at next (again xs) (roadFits xs bound) xs
+  pub road-passed : road_fits xs bound ≡ true → again xs ≡ false
+      → line.Numbers xs (record { at = next }) ≡ road s at next (again xs) (road_fits xs bound) xs
   road-passed f g = rw (f, g)
 
-  pub road-ranged : (k : ℕ) → k ≡ line_at s at → roadFits xs bound ≡ false → line.Fault (Range k) ≡ road s at next (again xs) (roadFits xs bound) xs
+  pub road-ranged : (k : ℕ) → k ≡ line_at s at → road_fits xs bound ≡ false → line.Fault (Range k) ≡ road s at next (again xs) (road_fits xs bound) xs
   road-ranged k e f = rw (e, f)
 
-pub fits_both : (xs : Numbers) (bound : ℕ) → roadFits xs bound ≡ true → (xs.first < bound) × (xs.second < bound)
+pub fits_both : (xs : Numbers) (bound : ℕ) → road_fits xs bound ≡ true → (xs.first < bound) × (xs.second < bound)
 fits_both xs bound h = (ltb-true _ bound (and_left _ _ h), ltb-true _ bound (and_right (ltb xs.first bound) _ h))
 
 abbrev Road : ℕ → Numbers → Type 0
-Road bound xs = roadFits xs bound ≡ true
+Road bound xs = road_fits xs bound ≡ true
 
 abbrev Move : ℕ → ℕ → Numbers → Type 0
-Move q labels xs = moveFits xs q labels ≡ true
+Move q labels xs = move_fits xs q labels ≡ true
 
 module _ (s : List ℕ) where
   once-led : (Q : Numbers → Type 0) (l : Line) (at : ℕ) (again : Bool) (r : Line) → Led s Q l r → Led s Q l (once s at again r)
@@ -147,41 +147,41 @@ module _ (s : List ℕ) where
   once-led Q l at true (line.Numbers xs c) g = here at refl
   once-led Q l at false (line.Numbers xs c) g = g
 
-  pub road-led : (l : Line) (key : List ℕ) (bound : ℕ) (again : Numbers → Bool) → Led s (Road bound) l (roadLine s l key bound again)
-  unfolding roadLine
+  pub road-led : (l : Line) (key : List ℕ) (bound : ℕ) (again : Numbers → Bool) → Led s (Road bound) l (road_line s l key bound again)
+  unfolding road_line
   road-led (line.Fault f) key bound again = before refl
   road-led (line.Numbers xs c) key bound again =
-      let a = nextNumber s (key_at s c.at key) 44 in let b = nextNumber s a 10 in
+      let a = next_number s (key_at s c.at key) 44 in let b = next_number s a 10 in
       let ys = pair (value_of a) (value_of b) in
-      once-led (Road bound) (line.Numbers xs c) c.at (again ys) (closed s c.at b (roadFits ys bound) ys)
-      (closed-led s (Road bound) (line.Numbers xs c) refl c.at b (roadFits ys bound) ys (λ e. e))
+      once-led (Road bound) (line.Numbers xs c) c.at (again ys) (closed s c.at b (road_fits ys bound) ys)
+      (closed-led s (Road bound) (line.Numbers xs c) refl c.at b (road_fits ys bound) ys (λ e. e))
 
   pub move-led : (l : Line) (key : List ℕ) (q labels : ℕ) → Led s (Move q labels) l (move_line s l key q labels)
   unfolding move_line
   move-led (line.Fault f) key q labels = before refl
   move-led (line.Numbers xs c) key q labels =
-      let a = nextNumber s (key_at s c.at key) 44 in
-      let z = nextNumber s (nextNumber s a 44) 44 in let d = nextNumber s z 10 in
-      closed-led s (Move q labels) (line.Numbers xs c) refl c.at (either d (nextNumber s (elseNumber s d z 44) 10)) _ _ (λ e. e)
+      let a = next_number s (key_at s c.at key) 44 in
+      let z = next_number s (next_number s a 44) 44 in let d = next_number s z 10 in
+      closed-led s (Move q labels) (line.Numbers xs c) refl c.at (either d (next_number s (else_number s d z 44) 10)) _ _ (λ e. e)
 
 module _ (s : List ℕ) (l : Line) (key : List ℕ) where
-  pub road-low : (bound : ℕ) (again : Numbers → Bool) (r : Line) → r ≡ roadLine s l key bound again
-      → ((numbersOf r).first ≤ bound - 1) × ((numbersOf r).second ≤ bound - 1)
+  pub road-low : (bound : ℕ) (again : Numbers → Bool) (r : Line) → r ≡ road_line s l key bound again
+      → ((numbers_of r).first ≤ bound - 1) × ((numbers_of r).second ≤ bound - 1)
   road-low bound again r e =
       let led = subst (λ x. Led s (Road bound) l x) (sym e) (road-led s l key bound again) in (
         low s (Road bound) l (λ xs. xs.first) bound refl (λ xs h. (fits_both xs bound h).0) r led,
         low s (Road bound) l (λ xs. xs.second) bound refl (λ xs h. (fits_both xs bound h).1) r led,
       )
 
-  pub road-is : (bound : ℕ) (again : Numbers → Bool) (pairs pairs' : List ℕ) (r : Line) → r ≡ roadLine s l key bound again
-      → pairs' ≡ notingLine pairs r → RoadRead (roadLine s l key bound again) bound pairs r pairs'
+  pub road-is : (bound : ℕ) (again : Numbers → Bool) (pairs pairs' : List ℕ) (r : Line) → r ≡ road_line s l key bound again
+      → pairs' ≡ noting_line pairs r → RoadRead (road_line s l key bound again) bound pairs r pairs'
   road-is bound again pairs pairs' r e h =
       let low = road-low bound again r e in
       record { same = e; first-low = low.0; second-low = low.1; noted = h }
 
   -- a line that has a fault leaves what is noted
-  pub road-faulty : (bound : ℕ) (again : Numbers → Bool) (pairs pairs' : List ℕ) (r : Line) (f : Fault) → r ≡ line.Fault f → r ≡ roadLine s l key bound again → pairs' ≡ pairs
-      → RoadRead (roadLine s l key bound again) bound pairs r pairs'
+  pub road-faulty : (bound : ℕ) (again : Numbers → Bool) (pairs pairs' : List ℕ) (r : Line) (f : Fault) → r ≡ line.Fault f → r ≡ road_line s l key bound again → pairs' ≡ pairs
+      → RoadRead (road_line s l key bound again) bound pairs r pairs'
   road-faulty bound again pairs pairs' r f k e same = road-is bound again pairs pairs' r e (same ∙ rw k)
 
   pub move-is : (q labels : ℕ) (r : Line) → r ≡ move_line s l key q labels → MoveRead (move_line s l key q labels) q labels r

@@ -17,30 +17,30 @@ use lib.Bits.{bit_or}
 use lib.Dec.{eqb}
 use lib.ListN.{length, get_or, set, replicate}
 use lib.Seq.{get_or-set_same, get_or-set_other}
-use Rattle.base.specs.Below.{anyBelow}
-use Rattle.base.specs.Bits.{hasBit}
+use Rattle.base.specs.Below.{any_below}
+use Rattle.base.specs.Bits.{has_bit}
 use Rattle.base.proofs.Bits.{bit-zero}
 use Rattle.base.proofs.Members.{has-or, members-one, or-member}
 use Rattle.base.proofs.Tests.{bool_same, pair_same, any_same, false-not-true}
-use Rattle.text.specs.Scan.{key_at, nextNumber, value_of}
-use Rattle.text.specs.Line.{pair, closed, good, numbersOf}
+use Rattle.text.specs.Scan.{key_at, next_number, value_of}
+use Rattle.text.specs.Line.{pair, closed, good, numbers_of}
 use Rattle.text.specs.declared.read.Number.{Number}
 use Rattle.text.specs.declared.read.Number.TheVariants.{Value, Bad}
 use Rattle.text.specs.declared.line.Numbers.{Numbers}
 use Rattle.text.specs.declared.line.Line.{Line}
 use Rattle.text.specs.declared.line.Line.TheVariants as line
 use Rattle.reader.specs.Pairs.{pair_of, noted, noted_of, noting, Noted}
-use Rattle.reader.specs.Line.{roadFits, once, roadLine, notingLine, RoadRead}
-use Rattle.reader.specs.Blocks.{onLine, earlier}
+use Rattle.reader.specs.Line.{road_fits, once, road_line, noting_line, RoadRead}
+use Rattle.reader.specs.Blocks.{on_line, earlier}
 use Rattle.reader.proofs.Lines.{fits_both}
 use Rattle.reader.proofs.Columns.{zeros-rest}
 use Rattle.reader.proofs.Faultless.{Faulty, faulty, was-good}
-use Rattle.reader.proofs.Steps.{roadsIn}
+use Rattle.reader.proofs.Steps.{roads_in}
 
 -- one bit more in a list of words
 bit-put : (words : List ℕ) (i k : ℕ) → i / 32 < length words
-    → hasBit (get_or (set words (i / 32) (bit_or (get_or words (i / 32) 0) (2 ^ (i % 32)))) (k / 32) 0) (k % 32)
-    ≡ hasBit (get_or words (k / 32) 0) (k % 32) || eqb i k
+    → has_bit (get_or (set words (i / 32) (bit_or (get_or words (i / 32) 0) (2 ^ (i % 32)))) (k / 32) 0) (k % 32)
+    ≡ has_bit (get_or words (k / 32) 0) (k % 32) || eqb i k
 bit-put words i k room = by (ℕ_discrete (i / 32) (k / 32))
   where
     more : ℕ
@@ -50,16 +50,16 @@ bit-put words i k room = by (ℕ_discrete (i / 32) (k / 32))
     rests : i / 32 ≡ k / 32 → eqb (i % 32) (k % 32) ≡ eqb i k
     rests e = bool_same _ _ (λ h. let r = eqb-true (i % 32) (k % 32) h in eq-eqb i k (omega arith)) (λ h. eq-eqb _ _ (ap (λ n. n % 32) (eqb-true i k h)))
 
-    by : Dec (i / 32 ≡ k / 32) → hasBit (get_or (set words (i / 32) more) (k / 32) 0) (k % 32) ≡ hasBit (get_or words (k / 32) 0) (k % 32) || eqb i k
+    by : Dec (i / 32 ≡ k / 32) → has_bit (get_or (set words (i / 32) more) (k / 32) 0) (k % 32) ≡ has_bit (get_or words (k / 32) 0) (k % 32) || eqb i k
     by (yes e) =
-        ap (λ w. hasBit (get_or (set words (i / 32) more) w 0) (k % 32)) (sym e)
-        ∙ ap (λ w. hasBit w (k % 32)) (get_or-set_same words (i / 32) more 0 room)
+        ap (λ w. has_bit (get_or (set words (i / 32) more) w 0) (k % 32)) (sym e)
+        ∙ ap (λ w. has_bit w (k % 32)) (get_or-set_same words (i / 32) more 0 room)
         ∙ has-or (get_or words (i / 32) 0) (2 ^ (i % 32)) (k % 32)
-        ∙ ap (λ b. hasBit (get_or words (i / 32) 0) (k % 32) || b) ((members-one (i % 32)).has (k % 32) ∙ rests e)
-        ∙ ap (λ w. hasBit (get_or words w 0) (k % 32) || eqb i k) e
+        ∙ ap (λ b. has_bit (get_or words (i / 32) 0) (k % 32) || b) ((members-one (i % 32)).has (k % 32) ∙ rests e)
+        ∙ ap (λ w. has_bit (get_or words w 0) (k % 32) || eqb i k) e
     by (no d) =
-        ap (λ w. hasBit w (k % 32)) (get_or-set_other words (i / 32) (k / 32) more 0 (λ e. d (sym e)))
-        ∙ sym (rw (ne_eqb i k (λ e. d (ap (λ n. n / 32) e))) (or-false (hasBit (get_or words (k / 32) 0) (k % 32))))
+        ap (λ w. has_bit w (k % 32)) (get_or-set_other words (i / 32) (k / 32) more 0 (λ e. d (sym e)))
+        ∙ sym (rw (ne_eqb i k (λ e. d (ap (λ n. n / 32) e))) (or-false (has_bit (get_or words (k / 32) 0) (k % 32))))
 
 pub noting-noted : (words : List ℕ) (a b x y : ℕ) → length words ≡ 512 → a < 128 → b < 128 → y < 128
     → noted (noting words a b) x y ≡ noted words x y || (eqb a x && eqb b y)
@@ -76,26 +76,26 @@ noting-again words a b room ha hb e =
     let i = pair_of a b in
     ap (set words (i / 32)) (or-member (get_or words (i / 32) 0) (i % 32) e) ∙ put_back words (i / 32) (omega arith)
 
-pub noted-start : (l : Line) (from to : List ℕ) → Noted (replicate 512 0) (earlier (roadsIn l from to) 0)
-unfolding anyBelow
+pub noted-start : (l : Line) (from to : List ℕ) → Noted (replicate 512 0) (earlier (roads_in l from to) 0)
+unfolding any_below
 noted-start l from to = record {
   has = λ xs h k. let i = pair_of xs.first xs.second in rw (zeros-rest 512 (i / 32) (omega arith), bit-zero (i % 32));
 }
 
 module _ (l r : Line) (from to : List ℕ) (i a b : ℕ) (from-room : i < length from) (to_room : i < length to) where
   -- the pairs of i + 1 lines are those of i lines and the last
-  earlier-next : (xs : Numbers) → earlier (roadsIn r (set from i a) (set to i b)) (i + 1) xs ≡ earlier (roadsIn l from to) i xs || (eqb a xs.first && eqb b xs.second)
-  unfolding anyBelow
+  earlier-next : (xs : Numbers) → earlier (roads_in r (set from i a) (set to i b)) (i + 1) xs ≡ earlier (roads_in l from to) i xs || (eqb a xs.first && eqb b xs.second)
+  unfolding any_below
   earlier-next xs = rw (
     add-one,
-    any_same (onLine (roadsIn r (set from i a) (set to i b)) xs) (onLine (roadsIn l from to) xs) i
+    any_same (on_line (roads_in r (set from i a) (set to i b)) xs) (on_line (roads_in l from to) xs) i
         (λ k h. rw (get_or-set_other from i k a 0 (λ e. omega arith), get_or-set_other to i k b 0 (λ e. omega arith))),
     get_or-set_same from i a 0 from-room,
     get_or-set_same to i b 0 to_room,
   )
 
-  pub noted-next : (words : List ℕ) → Noted words (earlier (roadsIn l from to) i) → length words ≡ 512 → a < 128 → b < 128
-      → Noted (noting words a b) (earlier (roadsIn r (set from i a) (set to i b)) (i + 1))
+  pub noted-next : (words : List ℕ) → Noted words (earlier (roads_in l from to) i) → length words ≡ 512 → a < 128 → b < 128
+      → Noted (noting words a b) (earlier (roads_in r (set from i a) (set to i b)) (i + 1))
   noted-next words n room ha hb = record {
     has = λ xs h k.
         noting-noted words a b xs.first xs.second room ha hb k
@@ -103,24 +103,24 @@ module _ (l r : Line) (from to : List ℕ) (i a b : ℕ) (from-room : i < length
         ∙ sym (earlier-next xs);
   }
 
-good-noting : (pairs : List ℕ) (l : Line) → good l ≡ true → notingLine pairs l ≡ noting pairs (numbersOf l).first (numbersOf l).second
+good-noting : (pairs : List ℕ) (l : Line) → good l ≡ true → noting_line pairs l ≡ noting pairs (numbers_of l).first (numbers_of l).second
 good-noting pairs (line.Numbers xs c) g = refl
 good-noting pairs (line.Fault f) g = absurd (false-not-true g refl)
 
 -- so it is behind a line that was read without a fault
 pub noted-after : (s key : List ℕ) (bound : ℕ) (again : Numbers → Bool) (l r : Line) (from to pairs pairs' : List ℕ) (i : ℕ) (xs : Numbers) → bound ≤ 128
-    → (good l ≡ true → Noted pairs (earlier (roadsIn l from to) i)) → length pairs ≡ 512 → i < length from → i < length to
-    → RoadRead (roadLine s l key bound again) bound pairs r pairs' → xs ≡ numbersOf r → good r ≡ true
-    → Noted pairs' (earlier (roadsIn r (set from i xs.first) (set to i xs.second)) (i + 1))
+    → (good l ≡ true → Noted pairs (earlier (roads_in l from to) i)) → length pairs ≡ 512 → i < length from → i < length to
+    → RoadRead (road_line s l key bound again) bound pairs r pairs' → xs ≡ numbers_of r → good r ≡ true
+    → Noted pairs' (earlier (roads_in r (set from i xs.first) (set to i xs.second)) (i + 1))
 noted-after s key bound again l r from to pairs pairs' i xs few n room hf ht read e g =
     let stays : Faulty l → Faulty r = λ f. subst Faulty (sym read.same) ((faulty s).road l key bound again f) in
     let was = was-good l r stays g in
     rw (e, read.noted, good-noting pairs r g)
-    (noted-next l r from to i (numbersOf r).first (numbersOf r).second hf ht pairs (n was) room (omega (arith, read.first-low)) (omega (arith, read.second-low)))
+    (noted-next l r from to i (numbers_of r).first (numbers_of r).second hf ht pairs (n was) room (omega (arith, read.first-low)) (omega (arith, read.second-low)))
 
 -- tests that agree on pairs of places make the same road line
 module _ (s key : List ℕ) (bound : ℕ) (few : bound ≤ 128) (P Q : Numbers → Bool) (agree : (xs : Numbers) → xs.first < 128 → xs.second < 128 → P xs ≡ Q xs) where
-  once_by : (at : ℕ) (b : Number) (fit : Bool) (xs : Numbers) → roadFits xs bound ≡ fit
+  once_by : (at : ℕ) (b : Number) (fit : Bool) (xs : Numbers) → road_fits xs bound ≡ fit
       → once s at (P xs) (closed s at b fit xs) ≡ once s at (Q xs) (closed s at b fit xs)
   once_by at Bad fit xs e = refl
   once_by at (Value v i) false xs e = refl
@@ -128,16 +128,16 @@ module _ (s key : List ℕ) (bound : ℕ) (few : bound ≤ 128) (P Q : Numbers �
       let low = fits_both xs bound e in
       rw (agree xs (omega (arith, low.0)) (omega (arith, low.1)))
 
-  pub line-by : (l : Line) → roadLine s l key bound P ≡ roadLine s l key bound Q
-  unfolding roadLine
+  pub line-by : (l : Line) → road_line s l key bound P ≡ road_line s l key bound Q
+  unfolding road_line
   line-by (line.Fault f) = refl
   line-by (line.Numbers xs c) =
-      let a = nextNumber s (key_at s c.at key) 44 in let b = nextNumber s a 10 in
-      once_by c.at b (roadFits (pair (value_of a) (value_of b)) bound) (pair (value_of a) (value_of b)) refl
+      let a = next_number s (key_at s c.at key) 44 in let b = next_number s a 10 in
+      once_by c.at b (road_fits (pair (value_of a) (value_of b)) bound) (pair (value_of a) (value_of b)) refl
 
 -- behind a fault nothing is tested
 pub road-by : (s key : List ℕ) (l : Line) (bound : ℕ) (words : List ℕ) (P : Numbers → Bool) → bound ≤ 128 → (good l ≡ true → Noted words P)
-    → roadLine s l key bound (noted_of words) ≡ roadLine s l key bound P
-unfolding roadLine
+    → road_line s l key bound (noted_of words) ≡ road_line s l key bound P
+unfolding road_line
 road-by s key (line.Fault f) bound words P few n = refl
 road-by s key (line.Numbers xs c) bound words P few n = line-by s key bound few (noted_of words) P (n refl).has (line.Numbers xs c)

@@ -15,18 +15,18 @@ use borrow.Author.Tests.{eq-eqb}
 use lib.ListN.{length, get_or, set, length-set, length-replicate}
 use lib.Seq.{get_or-set_same, get_or-set_other}
 use Rattle.base.proofs.Tests.{and_intro, any-intro, false-not-true}
-use Rattle.text.specs.Scan.{key_at, nextNumber, value_of}
-use Rattle.text.specs.Line.{pair, closed, good, numbersOf, first_of}
+use Rattle.text.specs.Scan.{key_at, next_number, value_of}
+use Rattle.text.specs.Line.{pair, closed, good, numbers_of, first_of}
 use Rattle.text.specs.declared.read.Number.{Number}
 use Rattle.text.specs.declared.read.Number.TheVariants.{Value, Bad}
 use Rattle.text.specs.declared.line.Numbers.{Numbers}
 use Rattle.text.specs.declared.line.Line.{Line}
 use Rattle.text.specs.declared.line.Line.TheVariants as line
-use Rattle.reader.specs.Keys.{roadKey}
-use Rattle.reader.specs.Line.{roadFits, once, roadLine}
-use Rattle.reader.specs.Blocks.{Filling, onLine, earlier, roadStep, roadBlock}
-use Rattle.reader.specs.Map.{mapOf}
-use Rattle.reader.specs.Reading.{draftOf, readPlan}
+use Rattle.reader.specs.Keys.{road_key}
+use Rattle.reader.specs.Line.{road_fits, once, road_line}
+use Rattle.reader.specs.Blocks.{Filling, on_line, earlier, road_step, road_block}
+use Rattle.reader.specs.Map.{map_of}
+use Rattle.reader.specs.Reading.{draft_of, read_plan}
 use Rattle.reader.specs.declared.block.RoadBlock.{RoadBlock}
 use Rattle.reader.specs.declared.Outcome.TheVariants as outcome
 use Rattle.reader.proofs.Columns.{filled}
@@ -51,23 +51,23 @@ single-none : (from to : List ℕ) → Single from to 0
 single-none from to = record { once = λ i j a b e f. omega arith }
 
 once-fresh : (s : List ℕ) (at : ℕ) (again : Numbers → Bool) (b : Number) (fit : Bool) (xs : Numbers)
-    → good (once s at (again xs) (closed s at b fit xs)) ≡ true → again (numbersOf (once s at (again xs) (closed s at b fit xs))) ≡ false
+    → good (once s at (again xs) (closed s at b fit xs)) ≡ true → again (numbers_of (once s at (again xs) (closed s at b fit xs))) ≡ false
 once-fresh s at again Bad fit xs g = absurd (false-not-true g refl)
 once-fresh s at again (Value v i) false xs g = absurd (false-not-true g refl)
 once-fresh s at again (Value v i) true xs g = by (again xs) refl g
   where
     by : (t : Bool) → again xs ≡ t → good (once s at t (closed s at (Value v i) true xs)) ≡ true
-        → again (numbersOf (once s at (again xs) (closed s at (Value v i) true xs))) ≡ false
+        → again (numbers_of (once s at (again xs) (closed s at (Value v i) true xs))) ≡ false
     by true e g = absurd (false-not-true g refl)
     by false e g = rw e e
 
-pub road-fresh : (s : List ℕ) (l : Line) (key : List ℕ) (bound : ℕ) (again : Numbers → Bool) → good (roadLine s l key bound again) ≡ true
-    → again (numbersOf (roadLine s l key bound again)) ≡ false
-unfolding roadLine
+pub road-fresh : (s : List ℕ) (l : Line) (key : List ℕ) (bound : ℕ) (again : Numbers → Bool) → good (road_line s l key bound again) ≡ true
+    → again (numbers_of (road_line s l key bound again)) ≡ false
+unfolding road_line
 road-fresh s (line.Fault f) key bound again g = absurd (false-not-true g refl)
 road-fresh s (line.Numbers xs c) key bound again g =
-    let a = nextNumber s (key_at s c.at key) 44 in let b = nextNumber s a 10 in let ys = pair (value_of a) (value_of b) in
-    once-fresh s c.at again b (roadFits ys bound) ys g
+    let a = next_number s (key_at s c.at key) 44 in let b = next_number s a 10 in let ys = pair (value_of a) (value_of b) in
+    once-fresh s c.at again b (road_fits ys bound) ys g
 
 module _ (s : List ℕ) (bound : ℕ) where
   -- what the lines so far leave, as long as the arrays have room
@@ -100,28 +100,28 @@ module _ (s : List ℕ) (bound : ℕ) where
           let same-to : get_or b.to u 0 ≡ xs.second
           = sym (to-other u h) ∙ f ∙ ap (λ k. get_or (set b.to i xs.second) k 0) d ∙ get_or-set_same b.to i xs.second 0 ht in
           false-not-true
-          (any-intro (onLine b xs) i u h
+          (any-intro (on_line b xs) i u h
           (and_intro (eq-eqb _ _ same_from) (eq-eqb _ _ same-to))) new
 
-  kept_next : (x : Filling RoadBlock) → Kept x.next x.block → Kept (roadStep s bound x).next (roadStep s bound x).block
+  kept_next : (x : Filling RoadBlock) → Kept x.next x.block → Kept (road_step s bound x).next (road_step s bound x).block
   kept_next x k =
       let b = x.block in
-      let l = roadLine s b.line roadKey bound (earlier b x.next) in
-      let xs = numbersOf l in
+      let l = road_line s b.line road_key bound (earlier b x.next) in
+      let xs = numbers_of l in
       record {
         long-from = length-set b.from x.next xs.first ∙ k.long-from;
         long-to = length-set b.to x.next xs.second ∙ k.long-to;
         single = λ h g.
             single-next b x.next xs (omega (arith, k.long-from)) (omega (arith, k.long-to))
-            (road-fresh s b.line roadKey bound (earlier b x.next) g)
-            (k.single (omega arith) (was-good b.line l ((faulty s).road b.line roadKey bound (earlier b x.next)) g));
+            (road-fresh s b.line road_key bound (earlier b x.next) g)
+            (k.single (omega arith) (was-good b.line l ((faulty s).road b.line road_key bound (earlier b x.next)) g));
       }
 
-  pub roads-single : (l : Line) (n : ℕ) → n ≤ 1024 → good (roadBlock s l n bound).line ≡ true
-      → Single (roadBlock s l n bound).from (roadBlock s l n bound).to n
-  unfolding roadBlock
+  pub roads-single : (l : Line) (n : ℕ) → n ≤ 1024 → good (road_block s l n bound).line ≡ true
+      → Single (road_block s l n bound).from (road_block s l n bound).to n
+  unfolding road_block
   roads-single l n h =
-      (filled (roadStep s bound) Kept (λ x. refl) kept_next n _
+      (filled (road_step s bound) Kept (λ x. refl) kept_next n _
       (record {
         long-from = length-replicate {A = ℕ} 1024 0;
         long-to = length-replicate {A = ℕ} 1024 0;
@@ -129,9 +129,9 @@ module _ (s : List ℕ) (bound : ℕ) where
       })
       ).single h
 
-pub read-single : (s : List ℕ) → (readPlan s).outcome ≡ outcome.Plan
-    → Single (readPlan s).plan.from (readPlan s).plan.to (readPlan s).plan.roads
-unfolding draftOf mapOf
+pub read-single : (s : List ℕ) → (read_plan s).outcome ≡ outcome.Plan
+    → Single (read_plan s).plan.from (read_plan s).plan.to (read_plan s).plan.roads
+unfolding draft_of map_of
 read-single s e =
     let p = passed s e in
     let g = map-good s p.no-fault in

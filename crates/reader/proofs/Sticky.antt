@@ -7,12 +7,12 @@ use lib.ListN.{length}
 use lib.Dec.{ltb}
 use Rattle.text.specs.Scan.{line_at}
 use Rattle.text.specs.Fault as fault
-use Rattle.text.specs.Line.{lineOfOne, first_of, top, finish}
-use Rattle.reader.specs.Line.{roadLine, move_line}
-use Rattle.reader.specs.Keys.{tourKey, marksKey, placesKey, startKey, roadsKey, firstKey, acceptKey, movesKey, hardKey, rulesKey, softKey, weightKey}
-use Rattle.reader.specs.Blocks.{repeat, Filling, labelStep, labelBlock, roadStep, roadBlock, moveStep, moveBlock, automatonBlock, hardBlock, weightLine, softBlock, softStep, softBlocks}
-use Rattle.reader.specs.Map.{mapOf}
-use Rattle.reader.specs.Reading.{draftOf}
+use Rattle.text.specs.Line.{line_of_one, first_of, top, finish}
+use Rattle.reader.specs.Line.{road_line, move_line}
+use Rattle.reader.specs.Keys.{tour_key, marks_key, places_key, start_key, roads_key, first_key, accept_key, moves_key, hard_key, rules_key, soft_key, weight_key}
+use Rattle.reader.specs.Blocks.{repeat, Filling, label_step, label_block, road_step, road_block, move_step, move_block, automaton_block, hard_block, weight_line, soft_block, soft_step, soft_blocks}
+use Rattle.reader.specs.Map.{map_of}
+use Rattle.reader.specs.Reading.{draft_of}
 use Rattle.text.specs.declared.fault.Fault.TheVariants.{Form}
 use Rattle.text.specs.declared.line.Numbers.{Numbers}
 use Rattle.text.specs.declared.line.Line.{Line}
@@ -33,44 +33,44 @@ repeat-keeps P f h (suc n) x p = repeat-keeps P f h n (f x) (h x p)
 
 -- P is kept by a line of every kind
 pub record Sticky (s : List ℕ) (P : Line → Type 0) : Type 0 where
-  pub one : (l : Line) (key : List ℕ) (low bound : ℕ) → P l → P (lineOfOne s l key low bound)
-  pub road : (l : Line) (key : List ℕ) (bound : ℕ) (again : Numbers → Bool) → P l → P (roadLine s l key bound again)
+  pub one : (l : Line) (key : List ℕ) (low bound : ℕ) → P l → P (line_of_one s l key low bound)
+  pub road : (l : Line) (key : List ℕ) (bound : ℕ) (again : Numbers → Bool) → P l → P (road_line s l key bound again)
   pub move : (l : Line) (key : List ℕ) (q labels : ℕ) → P l → P (move_line s l key q labels)
 
 module _ (s : List ℕ) (P : Line → Type 0) (k : Sticky s P) where
-  pub labels-keep : (l : Line) (n bound : ℕ) → P l → P (labelBlock s l n bound).line
-  unfolding labelBlock
-  labels-keep l n bound = repeat-keeps (λ (x : Filling LabelBlock). P x.block.line) (labelStep s bound) (λ x. k.one x.block.line _ 0 bound) n _
+  pub labels-keep : (l : Line) (n bound : ℕ) → P l → P (label_block s l n bound).line
+  unfolding label_block
+  labels-keep l n bound = repeat-keeps (λ (x : Filling LabelBlock). P x.block.line) (label_step s bound) (λ x. k.one x.block.line _ 0 bound) n _
 
-  pub roads-keep : (l : Line) (n bound : ℕ) → P l → P (roadBlock s l n bound).line
-  unfolding roadBlock
-  roads-keep l n bound = repeat-keeps (λ (x : Filling RoadBlock). P x.block.line) (roadStep s bound) (λ x. k.road x.block.line _ bound _) n _
+  pub roads-keep : (l : Line) (n bound : ℕ) → P l → P (road_block s l n bound).line
+  unfolding road_block
+  roads-keep l n bound = repeat-keeps (λ (x : Filling RoadBlock). P x.block.line) (road_step s bound) (λ x. k.road x.block.line _ bound _) n _
 
-  pub moves-keep : (l : Line) (n q labels : ℕ) → P l → P (moveBlock s l n q labels).line
-  unfolding moveBlock
-  moves-keep l n q labels = repeat-keeps (λ (x : Filling MoveBlock). P x.block.line) (moveStep s q labels) (λ x. k.move x.block.line _ q labels) n _
+  pub moves-keep : (l : Line) (n q labels : ℕ) → P l → P (move_block s l n q labels).line
+  unfolding move_block
+  moves-keep l n q labels = repeat-keeps (λ (x : Filling MoveBlock). P x.block.line) (move_step s q labels) (λ x. k.move x.block.line _ q labels) n _
 
-  pub automaton-keeps : (l : Line) (q labels : ℕ) → P l → P (automatonBlock s l q labels).line
-  unfolding automatonBlock
+  pub automaton-keeps : (l : Line) (q labels : ℕ) → P l → P (automaton_block s l q labels).line
+  unfolding automaton_block
   automaton-keeps l q labels p =
-      let first = lineOfOne s l firstKey 0 q in
-      let accept = lineOfOne s first acceptKey 0 (2 ^ q) in
-      let count = lineOfOne s accept movesKey 0 65 in
-      moves-keep count (first_of count) q labels (k.one accept movesKey 0 65 (k.one first acceptKey 0 (2 ^ q) (k.one l firstKey 0 q p)))
+      let first = line_of_one s l first_key 0 q in
+      let accept = line_of_one s first accept_key 0 (2 ^ q) in
+      let count = line_of_one s accept moves_key 0 65 in
+      moves-keep count (first_of count) q labels (k.one accept moves_key 0 65 (k.one first accept_key 0 (2 ^ q) (k.one l first_key 0 q p)))
 
-  pub hard-keeps : (l : Line) (labels : ℕ) → P l → P (hardBlock s l labels).line
-  unfolding hardBlock
-  hard-keeps l labels p = automaton-keeps (lineOfOne s l hardKey 1 17) _ labels (k.one l hardKey 1 17 p)
+  pub hard-keeps : (l : Line) (labels : ℕ) → P l → P (hard_block s l labels).line
+  unfolding hard_block
+  hard-keeps l labels p = automaton-keeps (line_of_one s l hard_key 1 17) _ labels (k.one l hard_key 1 17 p)
 
-  pub soft-keeps : (l : Line) (labels : ℕ) → P l → P (softBlock s l labels).line
-  unfolding softBlock
+  pub soft-keeps : (l : Line) (labels : ℕ) → P l → P (soft_block s l labels).line
+  unfolding soft_block
   soft-keeps l labels p =
-      let states = lineOfOne s l softKey 1 9 in
-      automaton-keeps (weightLine s states) _ labels (k.one states weightKey _ _ (k.one l softKey 1 9 p))
+      let states = line_of_one s l soft_key 1 9 in
+      automaton-keeps (weight_line s states) _ labels (k.one states weight_key _ _ (k.one l soft_key 1 9 p))
 
-  pub softs-keep : (l : Line) (n labels : ℕ) → P l → P (softBlocks s l n labels).line
-  unfolding softBlocks
-  softs-keep l n labels = repeat-keeps (λ (x : Filling SoftBlocks). P x.block.line) (softStep s labels) (λ x. soft-keeps x.block.line labels) n _
+  pub softs-keep : (l : Line) (n labels : ℕ) → P l → P (soft_blocks s l n labels).line
+  unfolding soft_blocks
+  softs-keep l n labels = repeat-keeps (λ (x : Filling SoftBlocks). P x.block.line) (soft_step s labels) (λ x. soft-keeps x.block.line labels) n _
 
 -- a fault, where there is one, is of a line of s, or of the line behind them
 abbrev pub Placed : List ℕ → Line → Type 0
@@ -85,8 +85,8 @@ module _ (s : List ℕ) where
 
   placed : Sticky s (Placed s)
   placed = record {
-    one = λ l key low bound. led-placed _ l (lineOfOne s l key low bound) (one-led s l key low bound);
-    road = λ l key bound again. led-placed _ l (roadLine s l key bound again) (road-led s l key bound again);
+    one = λ l key low bound. led-placed _ l (line_of_one s l key low bound) (one-led s l key low bound);
+    road = λ l key bound again. led-placed _ l (road_line s l key bound again) (road-led s l key bound again);
     move = λ l key q labels. led-placed _ l (move_line s l key q labels) (move-led s l key q labels);
   }
 
@@ -99,27 +99,27 @@ module _ (s : List ℕ) where
       by-test true = (line-least s c.at, line-most s c.at)
       by-test false = tt
 
-  map-placed : Placed s (mapOf s).line
-  unfolding mapOf
+  map-placed : Placed s (map_of s).line
+  unfolding map_of
   map-placed =
-      let tour = lineOfOne s top tourKey 1 2 in
-      let marks = lineOfOne s tour marksKey 0 9 in
-      let places = lineOfOne s marks placesKey 1 129 in
-      let labels = labelBlock s places (first_of places) (2 ^ first_of marks) in
-      let start = lineOfOne s labels.line startKey 0 (first_of places) in
-      let count = lineOfOne s start roadsKey 0 1025 in
+      let tour = line_of_one s top tour_key 1 2 in
+      let marks = line_of_one s tour marks_key 0 9 in
+      let places = line_of_one s marks places_key 1 129 in
+      let labels = label_block s places (first_of places) (2 ^ first_of marks) in
+      let start = line_of_one s labels.line start_key 0 (first_of places) in
+      let count = line_of_one s start roads_key 0 1025 in
       roads-keep s (Placed s) placed count (first_of count) (first_of places)
-      (placed.one start roadsKey 0 1025
-      (placed.one labels.line startKey 0 (first_of places)
+      (placed.one start roads_key 0 1025
+      (placed.one labels.line start_key 0 (first_of places)
       (labels-keep s (Placed s) placed places (first_of places) (2 ^ first_of marks)
-      (placed.one marks placesKey 1 129 (placed.one tour marksKey 0 9 (placed.one top tourKey 1 2 tt))))))
+      (placed.one marks places_key 1 129 (placed.one tour marks_key 0 9 (placed.one top tour_key 1 2 tt))))))
 
-  pub draft-placed : Placed s (draftOf s).line
-  unfolding draftOf
+  pub draft-placed : Placed s (draft_of s).line
+  unfolding draft_of
   draft-placed =
-      let bound = 2 ^ (mapOf s).marks in
-      let hard = hardBlock s (mapOf s).line bound in
-      let count = lineOfOne s hard.line rulesKey 0 9 in
-      finish-placed (softBlocks s count (first_of count) bound).line
+      let bound = 2 ^ (map_of s).marks in
+      let hard = hard_block s (map_of s).line bound in
+      let count = line_of_one s hard.line rules_key 0 9 in
+      finish-placed (soft_blocks s count (first_of count) bound).line
       (softs-keep s (Placed s) placed count (first_of count) bound
-      (placed.one hard.line rulesKey 0 9 (hard-keeps s (Placed s) placed (mapOf s).line bound map-placed)))
+      (placed.one hard.line rules_key 0 9 (hard-keeps s (Placed s) placed (map_of s).line bound map-placed)))

@@ -11,11 +11,11 @@ use lib.Dec.{ltb}
 use Rattle.plan.specs.WellFormed.{WellFormed}
 use Rattle.plan.specs.declared.Plan.{Plan}
 use Rattle.plan.specs.declared.Refusal.TheVariants.{PlanTooLong}
-use Rattle.reader.specs.Keys.{tourKey, marksKey, placesKey, startKey, roadsKey, rulesKey}
-use Rattle.text.specs.Line.{lineOfOne, first_of, top, good}
-use Rattle.reader.specs.Blocks.{labelBlock, roadBlock, hardBlock, softBlocks}
-use Rattle.reader.specs.Map.{mapOf}
-use Rattle.reader.specs.Reading.{draftOf, refuse, answer, readPlan}
+use Rattle.reader.specs.Keys.{tour_key, marks_key, places_key, start_key, roads_key, rules_key}
+use Rattle.text.specs.Line.{line_of_one, first_of, top, good}
+use Rattle.reader.specs.Blocks.{label_block, road_block, hard_block, soft_blocks}
+use Rattle.reader.specs.Map.{map_of}
+use Rattle.reader.specs.Reading.{draft_of, refuse, answer, read_plan}
 use Rattle.text.specs.declared.line.Line.{Line}
 use Rattle.text.specs.declared.line.Line.TheVariants as line
 use Rattle.reader.specs.declared.block.LabelBlock.{LabelBlock}
@@ -28,71 +28,71 @@ use Rattle.reader.proofs.Columns.{column-below, labels-filled, roads-filled}
 use Rattle.reader.proofs.Faultless.{Faulty, faulty, was-good, finish-good, OneGood, one-good, hard-read, softs-read}
 
 -- the lines of the map
-module _ (s : List ℕ) (e : good (mapOf s).line ≡ true) where
+module _ (s : List ℕ) (e : good (map_of s).line ≡ true) where
   abbrev marks_line : Line
-  marks_line = lineOfOne s (lineOfOne s top tourKey 1 2) marksKey 0 9
+  marks_line = line_of_one s (line_of_one s top tour_key 1 2) marks_key 0 9
 
   abbrev pub places-line : Line
-  places-line = lineOfOne s marks_line placesKey 1 129
+  places-line = line_of_one s marks_line places_key 1 129
 
   abbrev labels-block : LabelBlock
-  labels-block = labelBlock s places-line (first_of places-line) (2 ^ first_of marks_line)
+  labels-block = label_block s places-line (first_of places-line) (2 ^ first_of marks_line)
 
   abbrev start-line : Line
-  start-line = lineOfOne s labels-block.line startKey 0 (first_of places-line)
+  start-line = line_of_one s labels-block.line start_key 0 (first_of places-line)
 
   abbrev pub roads-line : Line
-  roads-line = lineOfOne s start-line roadsKey 0 1025
+  roads-line = line_of_one s start-line roads_key 0 1025
 
   pub roads-good : OneGood 0 1025 start-line roads-line
-  unfolding mapOf
+  unfolding map_of
   roads-good =
-      one-good s start-line roadsKey 0 1025
-      (was-good roads-line (roadBlock s roads-line (first_of roads-line) (first_of places-line)).line
+      one-good s start-line roads_key 0 1025
+      (was-good roads-line (road_block s roads-line (first_of roads-line) (first_of places-line)).line
       (roads-keep s Faulty (faulty s) roads-line (first_of roads-line) (first_of places-line)) e)
 
   start-good : OneGood 0 (first_of places-line) labels-block.line start-line
-  start-good = one-good s labels-block.line startKey 0 (first_of places-line) roads-good.was
+  start-good = one-good s labels-block.line start_key 0 (first_of places-line) roads-good.was
 
   places-good : OneGood 1 129 marks_line places-line
   places-good =
-      one-good s marks_line placesKey 1 129
+      one-good s marks_line places_key 1 129
       (was-good places-line labels-block.line (labels-keep s Faulty (faulty s) places-line (first_of places-line) (2 ^ first_of marks_line)) start-good.was)
 
-  marks-good : OneGood 0 9 (lineOfOne s top tourKey 1 2) marks_line
-  marks-good = one-good s (lineOfOne s top tourKey 1 2) marksKey 0 9 places-good.was
+  marks-good : OneGood 0 9 (line_of_one s top tour_key 1 2) marks_line
+  marks-good = one-good s (line_of_one s top tour_key 1 2) marks_key 0 9 places-good.was
 
 -- the whole file
-module _ (s : List ℕ) (e : good (draftOf s).line ≡ true) where
+module _ (s : List ℕ) (e : good (draft_of s).line ≡ true) where
   abbrev bound : ℕ
-  bound = 2 ^ (mapOf s).marks
+  bound = 2 ^ (map_of s).marks
 
   abbrev hard-block : AutomatonBlock
-  hard-block = hardBlock s (mapOf s).line bound
+  hard-block = hard_block s (map_of s).line bound
 
   abbrev rules-line : Line
-  rules-line = lineOfOne s hard-block.line rulesKey 0 9
+  rules-line = line_of_one s hard-block.line rules_key 0 9
 
   abbrev soft-part : SoftBlocks
-  soft-part = softBlocks s rules-line (first_of rules-line) bound
+  soft-part = soft_blocks s rules-line (first_of rules-line) bound
 
   bound_some : 1 ≤ bound
-  bound_some = one-le-pow (mapOf s).marks 2 (omega arith)
+  bound_some = one-le-pow (map_of s).marks 2 (omega arith)
 
   softs-good : good soft-part.line ≡ true
-  unfolding draftOf
+  unfolding draft_of
   softs-good = finish-good s soft-part.line e
 
   rules-good : OneGood 0 9 hard-block.line rules-line
   rules-good =
-      one-good s hard-block.line rulesKey 0 9
+      one-good s hard-block.line rules_key 0 9
       (was-good rules-line soft-part.line (softs-keep s Faulty (faulty s) rules-line (first_of rules-line) bound) softs-good)
 
-  pub map-good : good (mapOf s).line ≡ true
-  map-good = was-good (mapOf s).line hard-block.line (hard-keeps s Faulty (faulty s) (mapOf s).line bound) rules-good.was
+  pub map-good : good (map_of s).line ≡ true
+  map-good = was-good (map_of s).line hard-block.line (hard-keeps s Faulty (faulty s) (map_of s).line bound) rules-good.was
 
-  draft-well : WellFormed (draftOf s).plan
-  unfolding draftOf mapOf
+  draft-well : WellFormed (draft_of s).plan
+  unfolding draft_of map_of
   draft-well =
       let g = map-good in
       let p = places-good s g in
@@ -111,7 +111,7 @@ module _ (s : List ℕ) (e : good (draftOf s).line ≡ true) where
         labels = column-below _ n _ bound_some labels;
         from = column-below n _ _ p.least roads.from;
         to = column-below n _ _ p.least roads.to;
-        hard = hard-read s (mapOf s).line bound bound_some rules-good.was;
+        hard = hard-read s (map_of s).line bound bound_some rules-good.was;
         softs = λ i h. (softs.read softs-good i h (omega arith)).well;
         heavy = λ i h. (softs.read softs-good i h (omega arith)).heavy;
         rest-labels = labels.rest;
@@ -131,22 +131,22 @@ unfolding answer
 answer-plan (line.Fault f) p e = let z : ◌≡◌ {A = ℕ} 0 1 = cc in absurd (omega arith)
 answer-plan (line.Numbers xs c) p e = record { no-fault = refl; same = refl }
 
-module _ (s : List ℕ) (e : (readPlan s).outcome ≡ outcome.Plan) where
-  pub passed : Passed (draftOf s).line (draftOf s).plan (readPlan s).plan
-  unfolding readPlan
+module _ (s : List ℕ) (e : (read_plan s).outcome ≡ outcome.Plan) where
+  pub passed : Passed (draft_of s).line (draft_of s).plan (read_plan s).plan
+  unfolding read_plan
   passed = by-test (ltb 60000 (length s)) e
     where
       by-test : (t : Bool)
-          → (cond t (refuse PlanTooLong) (answer (draftOf s).line (draftOf s).plan)).outcome ≡ outcome.Plan
-          → Passed (draftOf s).line (draftOf s).plan (cond t (refuse PlanTooLong) (answer (draftOf s).line (draftOf s).plan)).plan
+          → (cond t (refuse PlanTooLong) (answer (draft_of s).line (draft_of s).plan)).outcome ≡ outcome.Plan
+          → Passed (draft_of s).line (draft_of s).plan (cond t (refuse PlanTooLong) (answer (draft_of s).line (draft_of s).plan)).plan
       by-test true e = let z : ◌≡◌ {A = ℕ} 0 1 = cc in absurd (omega arith)
-      by-test false e = answer-plan (draftOf s).line (draftOf s).plan e
+      by-test false e = answer-plan (draft_of s).line (draft_of s).plan e
 
-  pub read-well : WellFormed (readPlan s).plan
+  pub read-well : WellFormed (read_plan s).plan
   read-well = rw passed.same (draft-well s passed.no-fault)
 
 -- the same of what the reader answered
-pub read_ok : (s : List ℕ) (r : Reading) → r ≡ readPlan s → r.outcome ≡ outcome.Plan → WellFormed r.plan
+pub read_ok : (s : List ℕ) (r : Reading) → r ≡ read_plan s → r.outcome ≡ outcome.Plan → WellFormed r.plan
 read_ok s r same e =
-    let o : (readPlan s).outcome ≡ outcome.Plan = ap (λ x. x.outcome) (sym same) ∙ e in
+    let o : (read_plan s).outcome ≡ outcome.Plan = ap (λ x. x.outcome) (sym same) ∙ e in
     subst (λ x. WellFormed x.plan) (sym same) (read-well s o)

@@ -1,23 +1,23 @@
 -- Blocks of lines (01, "The plan file"). What an array has room for beyond the lines that are read is 0.
 --   repeat n f x                    == f, n times, from x on
 --   Filling B                       == a block B in reading, with the index that the next line's numbers go to
---   labelStep, roadStep, moveStep, softStep == one line, or one soft rule, more
---   labelBlock s prior n bound      == n lines `label=L`, each L below bound
---   onLine b xs i                   == the numbers xs stand on road line i of the block b
+--   label_step, road_step, move_step, soft_step == one line, or one soft rule, more
+--   label_block s prior n bound      == n lines `label=L`, each L below bound
+--   on_line b xs i                   == the numbers xs stand on road line i of the block b
 --   earlier b n xs                  == they stand on one of its first n road lines (02, note 6)
---   roadBlock s prior n bound       == n lines `road=A,B`, both below bound, of which none has the numbers of an earlier one
---   moveBlock s prior n q labels    == n move lines of an automaton of q states; need, bar and any are below labels
---   automatonBlock s prior q labels == first, accept, moves=T and T move lines of an automaton of q states
---   hardBlock s prior labels        == hard=Q and its automaton
---   weightLine s prior              == weight=W, 0 to 4,000,000 (02, note 5: a rule of weight 0 only watches)
---   softBlock s prior labels        == soft=Q, weight=W and its automaton
---   softBlocks s prior n labels     == n soft rules
+--   road_block s prior n bound       == n lines `road=A,B`, both below bound, of which none has the numbers of an earlier one
+--   move_block s prior n q labels    == n move lines of an automaton of q states; need, bar and any are below labels
+--   automaton_block s prior q labels == first, accept, moves=T and T move lines of an automaton of q states
+--   hard_block s prior labels        == hard=Q and its automaton
+--   weight_line s prior              == weight=W, 0 to 4,000,000 (02, note 5: a rule of weight 0 only watches)
+--   soft_block s prior labels        == soft=Q, weight=W and its automaton
+--   soft_blocks s prior n labels     == n soft rules
 use Rattle.std.specs.Prelude.{Bool, ◌&&◌, List, ℕ, zero, suc, ◌+◌, ◌^◌, set, get_or, replicate, eqb}
-use Rattle.base.specs.Below.{anyBelow}
-use Rattle.automata.specs.WellFormed.{noAutomaton}
-use Rattle.reader.specs.Keys.{labelKey, roadKey, moveKey, firstKey, acceptKey, movesKey, hardKey, softKey, weightKey}
-use Rattle.text.specs.Line.{lineOfOne, numbersOf, first_of}
-use Rattle.reader.specs.Line.{roadLine, move_line}
+use Rattle.base.specs.Below.{any_below}
+use Rattle.automata.specs.WellFormed.{no_automaton}
+use Rattle.reader.specs.Keys.{label_key, road_key, move_key, first_key, accept_key, moves_key, hard_key, soft_key, weight_key}
+use Rattle.text.specs.Line.{line_of_one, numbers_of, first_of}
+use Rattle.reader.specs.Line.{road_line, move_line}
 use Rattle.text.specs.declared.line.Numbers.{Numbers}
 use Rattle.text.specs.declared.line.Line.{Line}
 use Rattle.reader.specs.declared.block.LabelBlock.{LabelBlock}
@@ -35,38 +35,38 @@ pub record Filling (B : Type 0) : Type 0 where
   pub next : ℕ
   pub block : B
 
-abbrev pub labelStep : List ℕ → ℕ → Filling LabelBlock → Filling LabelBlock
-labelStep s bound x =
-    let l = lineOfOne s x.block.line labelKey 0 bound in
+abbrev pub label_step : List ℕ → ℕ → Filling LabelBlock → Filling LabelBlock
+label_step s bound x =
+    let l = line_of_one s x.block.line label_key 0 bound in
     record { next = x.next + 1; block = record { line = l; labels = set x.block.labels x.next (first_of l) } }
 
-unfoldable pub labelBlock : List ℕ → Line → ℕ → ℕ → LabelBlock
-labelBlock s prior n bound =
-    (repeat n (labelStep s bound) (record { next = 0; block = record { line = prior; labels = replicate 128 0 } })).block
+unfoldable pub label_block : List ℕ → Line → ℕ → ℕ → LabelBlock
+label_block s prior n bound =
+    (repeat n (label_step s bound) (record { next = 0; block = record { line = prior; labels = replicate 128 0 } })).block
 
-abbrev pub onLine : RoadBlock → Numbers → ℕ → Bool
-onLine b xs i = eqb (get_or b.from i 0) xs.first && eqb (get_or b.to i 0) xs.second
+abbrev pub on_line : RoadBlock → Numbers → ℕ → Bool
+on_line b xs i = eqb (get_or b.from i 0) xs.first && eqb (get_or b.to i 0) xs.second
 
 abbrev pub earlier : RoadBlock → ℕ → Numbers → Bool
-earlier b n xs = anyBelow n (onLine b xs)
+earlier b n xs = any_below n (on_line b xs)
 
-abbrev pub roadStep : List ℕ → ℕ → Filling RoadBlock → Filling RoadBlock
-roadStep s bound x =
-    let l = roadLine s x.block.line roadKey bound (earlier x.block x.next) in
-    let xs = numbersOf l in
+abbrev pub road_step : List ℕ → ℕ → Filling RoadBlock → Filling RoadBlock
+road_step s bound x =
+    let l = road_line s x.block.line road_key bound (earlier x.block x.next) in
+    let xs = numbers_of l in
     record {
       next = x.next + 1;
       block = record { line = l; from = set x.block.from x.next xs.first; to = set x.block.to x.next xs.second };
     }
 
-unfoldable pub roadBlock : List ℕ → Line → ℕ → ℕ → RoadBlock
-roadBlock s prior n bound =
-    (repeat n (roadStep s bound) (record { next = 0; block = record { line = prior; from = replicate 1024 0; to = replicate 1024 0 } })).block
+unfoldable pub road_block : List ℕ → Line → ℕ → ℕ → RoadBlock
+road_block s prior n bound =
+    (repeat n (road_step s bound) (record { next = 0; block = record { line = prior; from = replicate 1024 0; to = replicate 1024 0 } })).block
 
-abbrev pub moveStep : List ℕ → ℕ → ℕ → Filling MoveBlock → Filling MoveBlock
-moveStep s q labels x =
-    let l = move_line s x.block.line moveKey q labels in
-    let xs = numbersOf l in
+abbrev pub move_step : List ℕ → ℕ → ℕ → Filling MoveBlock → Filling MoveBlock
+move_step s q labels x =
+    let l = move_line s x.block.line move_key q labels in
+    let xs = numbers_of l in
     record {
       next = x.next + 1;
       block = record {
@@ -79,17 +79,17 @@ moveStep s q labels x =
       };
     }
 
-unfoldable pub moveBlock : List ℕ → Line → ℕ → ℕ → ℕ → MoveBlock
-moveBlock s prior n q labels =
+unfoldable pub move_block : List ℕ → Line → ℕ → ℕ → ℕ → MoveBlock
+move_block s prior n q labels =
     let zeros : List ℕ = replicate 64 0 in
-    (repeat n (moveStep s q labels) (record { next = 0; block = record { line = prior; from = zeros; need = zeros; bar = zeros; any = zeros; to = zeros } })).block
+    (repeat n (move_step s q labels) (record { next = 0; block = record { line = prior; from = zeros; need = zeros; bar = zeros; any = zeros; to = zeros } })).block
 
-unfoldable pub automatonBlock : List ℕ → Line → ℕ → ℕ → AutomatonBlock
-automatonBlock s prior q labels =
-    let first = lineOfOne s prior firstKey 0 q in
-    let accept = lineOfOne s first acceptKey 0 (2 ^ q) in
-    let count = lineOfOne s accept movesKey 0 65 in
-    let x = moveBlock s count (first_of count) q labels in
+unfoldable pub automaton_block : List ℕ → Line → ℕ → ℕ → AutomatonBlock
+automaton_block s prior q labels =
+    let first = line_of_one s prior first_key 0 q in
+    let accept = line_of_one s first accept_key 0 (2 ^ q) in
+    let count = line_of_one s accept moves_key 0 65 in
+    let x = move_block s count (first_of count) q labels in
     record {
       line = x.line;
       automaton = record {
@@ -105,24 +105,24 @@ automatonBlock s prior q labels =
       };
     }
 
-unfoldable pub hardBlock : List ℕ → Line → ℕ → AutomatonBlock
-hardBlock s prior labels =
-    let states = lineOfOne s prior hardKey 1 17 in
-    automatonBlock s states (first_of states) labels
+unfoldable pub hard_block : List ℕ → Line → ℕ → AutomatonBlock
+hard_block s prior labels =
+    let states = line_of_one s prior hard_key 1 17 in
+    automaton_block s states (first_of states) labels
 
-abbrev pub weightLine : List ℕ → Line → Line
-weightLine s prior = lineOfOne s prior weightKey 0 4000001
+abbrev pub weight_line : List ℕ → Line → Line
+weight_line s prior = line_of_one s prior weight_key 0 4000001
 
-unfoldable pub softBlock : List ℕ → Line → ℕ → SoftBlock
-softBlock s prior labels =
-    let states = lineOfOne s prior softKey 1 9 in
-    let weight = weightLine s states in
-    let x = automatonBlock s weight (first_of states) labels in
+unfoldable pub soft_block : List ℕ → Line → ℕ → SoftBlock
+soft_block s prior labels =
+    let states = line_of_one s prior soft_key 1 9 in
+    let weight = weight_line s states in
+    let x = automaton_block s weight (first_of states) labels in
     record { line = x.line; automaton = x.automaton; weight = first_of weight }
 
-abbrev pub softStep : List ℕ → ℕ → Filling SoftBlocks → Filling SoftBlocks
-softStep s labels x =
-    let b = softBlock s x.block.line labels in
+abbrev pub soft_step : List ℕ → ℕ → Filling SoftBlocks → Filling SoftBlocks
+soft_step s labels x =
+    let b = soft_block s x.block.line labels in
     record {
       next = x.next + 1;
       block = record {
@@ -132,7 +132,7 @@ softStep s labels x =
       };
     }
 
-unfoldable pub softBlocks : List ℕ → Line → ℕ → ℕ → SoftBlocks
-softBlocks s prior n labels =
-    (repeat n (softStep s labels)
-    (record { next = 0; block = record { line = prior; soft = replicate 8 noAutomaton; weights = replicate 8 0 } })).block
+unfoldable pub soft_blocks : List ℕ → Line → ℕ → ℕ → SoftBlocks
+soft_blocks s prior n labels =
+    (repeat n (soft_step s labels)
+    (record { next = 0; block = record { line = prior; soft = replicate 8 no_automaton; weights = replicate 8 0 } })).block

@@ -1,21 +1,21 @@
 -- The lines of a plan file through the last road (01, "The plan file", the rows tour to road).
---   mapOf s         == what those lines come to
+--   map_of s         == what those lines come to
 --   MapRead given r == r is the map `given`; its marks are at most 8
 use Rattle.std.specs.Prelude.{◌≡◌, List, ℕ, ◌^◌, ◌≤◌}
-use Rattle.reader.specs.Keys.{tourKey, marksKey, placesKey, startKey, roadsKey}
-use Rattle.text.specs.Line.{lineOfOne, first_of, top}
-use Rattle.reader.specs.Blocks.{labelBlock, roadBlock}
+use Rattle.reader.specs.Keys.{tour_key, marks_key, places_key, start_key, roads_key}
+use Rattle.text.specs.Line.{line_of_one, first_of, top}
+use Rattle.reader.specs.Blocks.{label_block, road_block}
 use Rattle.reader.specs.declared.map.Map.{Map}
 
-unfoldable pub mapOf : List ℕ → Map
-mapOf s =
-    let tour = lineOfOne s top tourKey 1 2 in
-    let marks = lineOfOne s tour marksKey 0 9 in
-    let places = lineOfOne s marks placesKey 1 129 in
-    let labels = labelBlock s places (first_of places) (2 ^ first_of marks) in
-    let start = lineOfOne s labels.line startKey 0 (first_of places) in
-    let count = lineOfOne s start roadsKey 0 1025 in
-    let roads = roadBlock s count (first_of count) (first_of places) in
+unfoldable pub map_of : List ℕ → Map
+map_of s =
+    let tour = line_of_one s top tour_key 1 2 in
+    let marks = line_of_one s tour marks_key 0 9 in
+    let places = line_of_one s marks places_key 1 129 in
+    let labels = label_block s places (first_of places) (2 ^ first_of marks) in
+    let start = line_of_one s labels.line start_key 0 (first_of places) in
+    let count = line_of_one s start roads_key 0 1025 in
+    let roads = road_block s count (first_of count) (first_of places) in
     record {
       line = roads.line;
       marks = first_of marks;

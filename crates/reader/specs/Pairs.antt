@@ -6,14 +6,14 @@
 --   Noted words P    == the pairs that are noted are those with the property P
 use Rattle.std.specs.Prelude.{◌≡◌, Bool, List, ℕ, ◌+◌, ◌*◌, ◌/◌, ◌%◌, ◌^◌, ◌<◌, get_or, set}
 use Rattle.std.specs.Int.Bits.{bit_or}
-use Rattle.base.specs.Bits.{hasBit}
+use Rattle.base.specs.Bits.{has_bit}
 use Rattle.text.specs.declared.line.Numbers.{Numbers}
 
 abbrev pub pair_of : ℕ → ℕ → ℕ
 pair_of a b = a * 128 + b
 
 abbrev pub noted : List ℕ → ℕ → ℕ → Bool
-noted words a b = hasBit (get_or words (pair_of a b / 32) 0) (pair_of a b % 32)
+noted words a b = has_bit (get_or words (pair_of a b / 32) 0) (pair_of a b % 32)
 
 abbrev pub noted_of : List ℕ → Numbers → Bool
 noted_of words xs = noted words xs.first xs.second

@@ -1,20 +1,20 @@
 -- The whole plan file (01, "The plan file" and "Why a plan is turned away").
---   draftFrom s m == what all lines of s come to, those through the last road being the map m: the last line or the first fault, and the plan
+--   draft_from s m == what all lines of s come to, those through the last road being the map m: the last line or the first fault, and the plan
 --                    that they make
---   draftOf s     == so, with the map that those lines are
+--   draft_of s     == so, with the map that those lines are
 --   refuse r      == the answer that turns a plan away: the cause, and an empty plan
 --   answer l p    == the answer to lines that end with l and make the plan p
---   answerTo s d  == the answer to the plan file s, whose lines come to d: its length is judged before its lines
---   readPlan s    == the answer to the plan file s; the plan's size is left open
+--   answer_to s d  == the answer to the plan file s, whose lines come to d: its length is judged before its lines
+--   read_plan s    == the answer to the plan file s; the plan's size is left open
 use Rattle.std.specs.Prelude.{cond, List, ℕ, ◌^◌, length, ltb}
-use Rattle.plan.specs.WellFormed.{noPlan}
+use Rattle.plan.specs.WellFormed.{no_plan}
 use Rattle.plan.specs.declared.Plan.{Plan}
 use Rattle.plan.specs.declared.Refusal.{Refusal}
 use Rattle.plan.specs.declared.Refusal.TheVariants as refusal
-use Rattle.reader.specs.Keys.{rulesKey}
-use Rattle.text.specs.Line.{lineOfOne, first_of, finish}
-use Rattle.reader.specs.Blocks.{hardBlock, softBlocks}
-use Rattle.reader.specs.Map.{mapOf}
+use Rattle.reader.specs.Keys.{rules_key}
+use Rattle.text.specs.Line.{line_of_one, first_of, finish}
+use Rattle.reader.specs.Blocks.{hard_block, soft_blocks}
+use Rattle.reader.specs.Map.{map_of}
 use Rattle.text.specs.declared.line.Line.{Line}
 use Rattle.text.specs.declared.line.Line.TheVariants as line
 use Rattle.reader.specs.declared.map.Map.{Map}
@@ -22,12 +22,12 @@ use Rattle.reader.specs.declared.Draft.{Draft}
 use Rattle.reader.specs.declared.Outcome.TheVariants as outcome
 use Rattle.reader.specs.declared.Reading.{Reading}
 
-abbrev pub draftFrom : List ℕ → Map → Draft
-draftFrom s m =
+abbrev pub draft_from : List ℕ → Map → Draft
+draft_from s m =
     let bound = 2 ^ m.marks in
-    let h = hardBlock s m.line bound in
-    let count = lineOfOne s h.line rulesKey 0 9 in
-    let x = softBlocks s count (first_of count) bound in
+    let h = hard_block s m.line bound in
+    let count = line_of_one s h.line rules_key 0 9 in
+    let x = soft_blocks s count (first_of count) bound in
     record {
       line = finish s x.line;
       plan = record {
@@ -45,18 +45,18 @@ draftFrom s m =
       };
     }
 
-unfoldable pub draftOf : List ℕ → Draft
-draftOf s = draftFrom s (mapOf s)
+unfoldable pub draft_of : List ℕ → Draft
+draft_of s = draft_from s (map_of s)
 
 abbrev pub refuse : Refusal → Reading
-refuse r = record { outcome = outcome.Refused r; plan = noPlan }
+refuse r = record { outcome = outcome.Refused r; plan = no_plan }
 
 unfoldable pub answer : Line → Plan → Reading
 answer (line.Fault f) p = refuse (refusal.Line f)
 answer (line.Numbers xs c) p = record { outcome = outcome.Plan; plan = p }
 
-abbrev pub answerTo : List ℕ → Draft → Reading
-answerTo s d = cond (ltb 60000 (length s)) (refuse refusal.PlanTooLong) (answer d.line d.plan)
+abbrev pub answer_to : List ℕ → Draft → Reading
+answer_to s d = cond (ltb 60000 (length s)) (refuse refusal.PlanTooLong) (answer d.line d.plan)
 
-unfoldable pub readPlan : List ℕ → Reading
-readPlan s = answerTo s (draftOf s)
+unfoldable pub read_plan : List ℕ → Reading
+read_plan s = answer_to s (draft_of s)

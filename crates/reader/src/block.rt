@@ -1,7 +1,7 @@
 //! Blocks of lines: labels, roads, moves, and the automata of the hard rule and of the soft rules.
 ghost use Rattle.std.specs.Prelude.{◌≡◌, ◌^◌, ◌≤◌};
-ghost use Rattle.automata.specs.WellFormed.{noAutomaton};
-ghost use Rattle.reader.specs.Blocks.{labelBlock, roadBlock, moveBlock, automatonBlock, hardBlock, softBlock, softBlocks};
+ghost use Rattle.automata.specs.WellFormed.{no_automaton};
+ghost use Rattle.reader.specs.Blocks.{label_block, road_block, move_block, automaton_block, hard_block, soft_block, soft_blocks};
 
 use crate::line::{move_line, road_line};
 use automata::Automaton;
@@ -16,7 +16,7 @@ pub struct LabelBlock {
 // The labels of n places, each below `bound`.
 pub fn label_block(s: &[u8], prior: Line, n: usize, bound: u32) -> LabelBlock
     requires { (n ≤ 128) × (bound ≤ 256) }
-    ensures { result ≡ labelBlock s.now prior n bound }
+    ensures { result ≡ label_block s.now prior n bound }
 {
     let mut line = prior;
     let mut labels = [0u8; 128];
@@ -39,7 +39,7 @@ pub struct RoadBlock {
 // n roads between places below `bound`, each once.
 pub fn road_block(s: &[u8], prior: Line, n: usize, bound: u32) -> RoadBlock
     requires { (n ≤ 1024) × (bound ≤ 128) }
-    ensures { result ≡ roadBlock s.now prior n bound }
+    ensures { result ≡ road_block s.now prior n bound }
 {
     let mut line = prior;
     let mut from = [0u8; 1024];
@@ -69,7 +69,7 @@ pub struct MoveBlock {
 // n moves between states below `states`, under labels below `labels`.
 pub fn move_block(s: &[u8], prior: Line, n: usize, states: u32, labels: u32) -> MoveBlock
     requires { (n ≤ 64) × (states ≤ 256) × (labels ≤ 256) }
-    ensures { result ≡ moveBlock s.now prior n states labels }
+    ensures { result ≡ move_block s.now prior n states labels }
 {
     let mut line = prior;
     let mut from = [0u8; 64];
@@ -123,7 +123,7 @@ pub struct AutomatonBlock {
 // The lines of an automaton of q states behind the one that says q: first, accept, moves and the moves.
 pub fn automaton_block(s: &[u8], prior: Line, q: u32, labels: u32) -> AutomatonBlock
     requires { (q ≤ 16) × (labels ≤ 256) }
-    ensures { result ≡ automatonBlock s.now prior q labels }
+    ensures { result ≡ automaton_block s.now prior q labels }
 {
     let first = line_of_one(s, prior, b"first=", 0, q);
     let accept = line_of_one(s, first, b"accept=", 0, power(q));
@@ -153,7 +153,7 @@ pub fn automaton_block(s: &[u8], prior: Line, q: u32, labels: u32) -> AutomatonB
 // The hard rule.
 pub fn hard_block(s: &[u8], prior: Line, labels: u32) -> AutomatonBlock
     requires { labels ≤ 256 }
-    ensures { result ≡ hardBlock s.now prior labels }
+    ensures { result ≡ hard_block s.now prior labels }
 {
     let states = line_of_one(s, prior, b"hard=", 1, 17);
     automaton_block(s, states, first_of(states), labels)
@@ -169,7 +169,7 @@ pub struct SoftBlock {
 // One soft rule.
 pub fn soft_block(s: &[u8], prior: Line, labels: u32) -> SoftBlock
     requires { labels ≤ 256 }
-    ensures { result ≡ softBlock s.now prior labels }
+    ensures { result ≡ soft_block s.now prior labels }
 {
     let states = line_of_one(s, prior, b"soft=", 1, 9);
     let weight = line_of_one(s, states, b"weight=", 0, 4000001);
@@ -184,7 +184,7 @@ pub fn soft_block(s: &[u8], prior: Line, labels: u32) -> SoftBlock
 }
 
 pub fn no_automaton() -> Automaton
-    ensures { result ≡ noAutomaton }
+    ensures { result ≡ no_automaton }
 {
     Automaton {
         states: 0,
@@ -209,7 +209,7 @@ pub struct SoftBlocks {
 // n soft rules.
 pub fn soft_blocks(s: &[u8], prior: Line, n: usize, labels: u32) -> SoftBlocks
     requires { (n ≤ 8) × (labels ≤ 256) }
-    ensures { result ≡ softBlocks s.now prior n labels }
+    ensures { result ≡ soft_blocks s.now prior n labels }
 {
     let mut line = prior;
     let none = no_automaton();

@@ -5,8 +5,8 @@ pub mod map;
 mod pairs;
 
 ghost use Rattle.std.specs.Prelude.{◌≡◌};
-ghost use Rattle.plan.specs.WellFormed.{noPlan};
-ghost use Rattle.reader.specs.Reading.{draftOf, refuse, readPlan};
+ghost use Rattle.plan.specs.WellFormed.{no_plan};
+ghost use Rattle.reader.specs.Reading.{draft_of, refuse, read_plan};
 ghost use Rattle.reader.specs.Outcome.{number, line_of};
 
 use block::{hard_block, label_count, no_automaton, soft_blocks};
@@ -22,7 +22,7 @@ pub struct Draft {
 }
 
 fn read_lines(s: &[u8]) -> Draft
-    ensures { result ≡ draftOf s.now }
+    ensures { result ≡ draft_of s.now }
 {
     let m = read_map(s);
     let map_line = m.line;
@@ -71,7 +71,7 @@ pub struct Reading {
 }
 
 fn no_plan() -> Plan
-    ensures { result ≡ noPlan }
+    ensures { result ≡ no_plan }
 {
     let hard = no_automaton();
     let soft = [hard; 8];
@@ -100,7 +100,7 @@ fn refuse(refusal: Refusal) -> Reading
 
 // The plan file in s: more than 60,000 bytes are turned away unread, then the first faulty line decides.
 pub fn read_plan(s: &[u8]) -> Reading
-    ensures { result ≡ readPlan s.now }
+    ensures { result ≡ read_plan s.now }
 {
     if 60000 < s.len() {
         return refuse(Refusal::PlanTooLong);

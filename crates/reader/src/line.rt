@@ -1,7 +1,7 @@
 //! Lines of a plan file that hold more than one number.
 ghost use Rattle.std.specs.Prelude.{◌≡◌, ◌≤◌, length};
 ghost use Rattle.reader.specs.Pairs.{noted_of};
-ghost use Rattle.reader.specs.Line.{roadFits, roadLine, moveFits, move_line, RoadRead, MoveRead};
+ghost use Rattle.reader.specs.Line.{road_fits, road_line, move_fits, move_line, RoadRead, MoveRead};
 
 use crate::pairs::{note, noted};
 use text::fault::Fault;
@@ -9,7 +9,7 @@ use text::line::{Cursor, Line, Numbers, bad_form, judged, pair};
 use text::read::{Number, either, else_number, key_at, line_at, next_number, value_of};
 
 fn road_fits(xs: Numbers, bound: u32) -> bool
-    ensures { result ≡ roadFits xs bound }
+    ensures { result ≡ road_fits xs bound }
 {
     if bound <= xs.first {
         return false;
@@ -20,7 +20,7 @@ fn road_fits(xs: Numbers, bound: u32) -> bool
 // A line `key=a,b`, both below `bound` and not a pair that is noted. If it has no fault, its pair is noted.
 pub fn road_line(s: &[u8], prior: Line, key: &[u8], bound: u32, pairs: &mut [u32]) -> Line
     requires { (bound ≤ 128) × (length pairs.old ≡ 512) }
-    ensures { RoadRead (roadLine s.now prior key.now bound (noted_of pairs.old)) bound pairs.old result pairs.new }
+    ensures { RoadRead (road_line s.now prior key.now bound (noted_of pairs.old)) bound pairs.old result pairs.new }
 {
     let Line::Numbers(_, cursor) = prior else {
         return prior;
@@ -46,7 +46,7 @@ pub fn road_line(s: &[u8], prior: Line, key: &[u8], bound: u32, pairs: &mut [u32
 }
 
 fn move_fits(xs: Numbers, states: u32, labels: u32) -> bool
-    ensures { result ≡ moveFits xs states labels }
+    ensures { result ≡ move_fits xs states labels }
 {
     if states <= xs.first {
         return false;

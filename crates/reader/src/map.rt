@@ -1,5 +1,5 @@
 //! The map of a plan file: its lines through the last road.
-ghost use Rattle.reader.specs.Map.{mapOf, MapRead};
+ghost use Rattle.reader.specs.Map.{map_of, MapRead};
 
 use crate::block::{label_block, label_count, road_block};
 use text::line::{Line, first_of, line_of_one, top};
@@ -18,7 +18,7 @@ pub struct Map {
 }
 
 pub fn read_map(s: &[u8]) -> Map
-    ensures { MapRead (mapOf s.now) result }
+    ensures { MapRead (map_of s.now) result }
 {
     let tour = line_of_one(s, top(), b"tour=", 1, 2);
     let marks = line_of_one(s, tour, b"marks=", 0, 9);

@@ -19,11 +19,11 @@ use lib.ListN.{length, get_or, set}
 use lib.Bits.{bit_or}
 use lib.Count.{count_trailing_zeros}
 use lib.Dec.{eqb}
-use Rattle.base.specs.Below.{anyBelow}
-use Rattle.base.specs.Bits.{hasBit}
+use Rattle.base.specs.Below.{any_below}
+use Rattle.base.specs.Bits.{has_bit}
 use Rattle.base.proofs.Members.{lowest_set}
 use Rattle.base.proofs.Tests.{any-intro, any-elim, any_same, false-not-true}
-use Rattle.nodes.specs.Sets.{in_b, roadB, With}
+use Rattle.nodes.specs.Sets.{in_b, road_b, With}
 use Rattle.nodes.proofs.Numbers.{node-place, node-tuple}
 use Rattle.nodes.proofs.Masks.{has-none}
 use Rattle.nodes.proofs.Changes.{word-joined}
@@ -58,7 +58,7 @@ gains-none R l none = record { has = λ x y _ _. rw (none x y, or-false) }
 
 pub gains-then : {R S : ℕ → ℕ → Bool} {l l₁ l₂ : List ℕ} (Q : ℕ → ℕ → Bool) → Gains R l l₁ → Gains S l₁ l₂ → ((x y : ℕ) → R x y || S x y ≡ Q x y) → Gains Q l l₂
 gains-then {R} {S} {l} Q g h e =
-    record { has = λ x y hx hy. h.has x y hx hy ∙ ap (λ r. r || S x y) (g.has x y hx hy) ∙ or_assoc (roadB l x y) (R x y) (S x y) ∙ ap (λ r. roadB l x y || r) (e x y) }
+    record { has = λ x y hx hy. h.has x y hx hy ∙ ap (λ r. r || S x y) (g.has x y hx hy) ∙ or_assoc (road_b l x y) (R x y) (S x y) ∙ ap (λ r. road_b l x y || r) (e x y) }
 
 pub gains-if : {R : ℕ → ℕ → Bool} {l l' : List ℕ} (b : Bool) → b ≡ true → Gains R l l' → Gains (λ x y. R x y && b) l l'
 gains-if {R} {l} b e g = record { has = λ x y hx hy. g.has x y hx hy ∙ rw (e, and-true (R x y)) }
@@ -69,32 +69,32 @@ gains-not R b l e = gains-none (λ x y. R x y && b) l (λ x y. rw e (and-false (
 -- the roads of two lists
 module _ (from to : List ℕ) (l : List ℕ) where
   pub listed_start : Gains (listed from to 0) l l
-  unfolding anyBelow
+  unfolding any_below
   listed_start = gains-none (listed from to 0) l (λ x y. refl)
 
   pub listed_next : {l₁ l₂ : List ℕ} (i a b : ℕ) → Gains (listed from to i) l l₁ → a ≡ get_or from i 0 → b ≡ get_or to i 0 → Gains (single a b) l₁ l₂
       → Gains (listed from to (i + 1)) l l₂
-  unfolding anyBelow
+  unfolding any_below
   listed_next i a b g ea eb h = gains-then (listed from to (i + 1)) g h (λ x y. rw (add-one i, ea, eb))
 
 -- whether a place is bare
 module _ (l : List ℕ) (a : ℕ) where
   pub bare-zero : get_or l a 0 ≡ 0 → get_or l (128 + a) 0 ≡ 0 → bare l a ≡ true
-  bare-zero e f = by (anyBelow 128 (roadB l a)) refl
+  bare-zero e f = by (any_below 128 (road_b l a)) refl
     where
-      none : (b : ℕ) → b < 128 → Dec (b < 64) → roadB l a b ≡ false
-      none b h (yes low) = road-low l a b low ∙ ap (λ m. hasBit m b) e ∙ has-none b
+      none : (b : ℕ) → b < 128 → Dec (b < 64) → road_b l a b ≡ false
+      none b h (yes low) = road-low l a b low ∙ ap (λ m. has_bit m b) e ∙ has-none b
       none b h (no high) =
           let up : b ≡ 64 + (b - 64) = omega arith in
-          ap (roadB l a) up ∙ road-high l a (b - 64) (omega arith) ∙ ap (λ m. hasBit m (b - 64)) f ∙ has-none (b - 64)
+          ap (road_b l a) up ∙ road-high l a (b - 64) (omega arith) ∙ ap (λ m. has_bit m (b - 64)) f ∙ has-none (b - 64)
 
-      by : (t : Bool) → anyBelow 128 (roadB l a) ≡ t → not t ≡ true
+      by : (t : Bool) → any_below 128 (road_b l a) ≡ t → not t ≡ true
       by false _ = refl
-      by true g = let m = any-elim (roadB l a) 128 g in absurd (false-not-true m.2 (none m.0 m.1 (dec_lt m.0 64)))
+      by true g = let m = any-elim (road_b l a) 128 g in absurd (false-not-true m.2 (none m.0 m.1 (dec_lt m.0 64)))
 
   -- a road leaves it
-  left : (b : ℕ) → b < 128 → roadB l a b ≡ true → bare l a ≡ false
-  left b h r = rw (any-intro (roadB l a) 128 b h r)
+  left : (b : ℕ) → b < 128 → road_b l a b ≡ true → bare l a ≡ false
+  left b h r = rw (any-intro (road_b l a) 128 b h r)
 
   pub bare-low : (get_or l a 0 ≡ 0 → ⊥) → get_or l a 0 < 2 ^ 64 → bare l a ≡ false
   bare-low some h =
@@ -123,7 +123,7 @@ module _ (free : ℕ → Bool) (l : List ℕ) where
 
 pub bare-same : (free : ℕ → Bool) (l l₁ : List ℕ) (i : ℕ) → i < 128 → Gains (parked free i) l l₁ → bare l₁ i ≡ bare l i
 bare-same free l l₁ i h g =
-    ap not (any_same (roadB l₁ i) (roadB l i) 128 (λ y hy. g.has i y h hy ∙ rw (le-ltb i i (omega arith), and-false (eqb i y), or-false)))
+    ap not (any_same (road_b l₁ i) (road_b l i) 128 (λ y hy. g.has i y h hy ∙ rw (le-ltb i i (omega arith), and-false (eqb i y), or-false)))
 
 pub record Growing (R S : ℕ → ℕ → Bool) (i n : ℕ) (roads₀ broads₀ roads broads : List ℕ) : Type 0 where
   pub few : i ≤ n

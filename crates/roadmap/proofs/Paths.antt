@@ -12,14 +12,14 @@ use native.Mathlib.Omega.{arith}
 use borrow.Author.Tests.{eq-eqb, ne_eqb}
 use lib.ListN.{length, get_or, replicate, length-replicate, get_or-eq_default}
 use lib.Dec.{eqb, ltb}
-use Rattle.base.specs.Below.{anyBelow}
-use Rattle.base.specs.Bits.{hasBit}
+use Rattle.base.specs.Below.{any_below}
+use Rattle.base.specs.Bits.{has_bit}
 use Rattle.base.proofs.Tests.{any-intro, any-elim, any_same, and_intro, and_left, bool_same, false-not-true}
-use Rattle.nodes.specs.Sets.{roadB, Paved}
+use Rattle.nodes.specs.Sets.{road_b, Paved}
 use Rattle.nodes.proofs.Masks.{has-none}
 use Rattle.nodes.proofs.Words.{blank-at}
 use Rattle.nodes.proofs.Roads.{road-none}
-use Rattle.plan.specs.Tour.{roadCount, isRoad, hasRoad, leaves, parks, joins}
+use Rattle.plan.specs.Tour.{road_count, is_road, has_road, leaves, parks, joins}
 use Rattle.plan.specs.WellFormed.{WellFormed}
 use Rattle.plan.specs.declared.Plan.{Plan}
 use Rattle.plan.proofs.Joins.{joins-from, joins-to}
@@ -29,46 +29,46 @@ pub blank-long : {l : List ℕ} → l ≡ replicate 256 0 → length l ≡ 256
 blank-long e = ap length e ∙ length-replicate {A = ℕ} 256 0
 
 -- past the end of the table there is no road
-past-none : (l : List ℕ) → length l ≡ 256 → (a b : ℕ) → 128 ≤ b → roadB l a b ≡ false
-unfolding roadB
-past-none l long a b h = ap (λ m. hasBit m (b % 64)) (get_or-eq_default l 0 (omega arith)) ∙ has-none (b % 64)
+past-none : (l : List ℕ) → length l ≡ 256 → (a b : ℕ) → 128 ≤ b → road_b l a b ≡ false
+unfolding road_b
+past-none l long a b h = ap (λ m. has_bit m (b % 64)) (get_or-eq_default l 0 (omega arith)) ∙ has-none (b % 64)
 
-pub table-inside : (places : ℕ) (l : List ℕ) → length l ≡ 256 → ((a b : ℕ) → a < places → b < 128 → roadB l a b ≡ true → b < places) → Paved places l
+pub table-inside : (places : ℕ) (l : List ℕ) → length l ≡ 256 → ((a b : ℕ) → a < places → b < 128 → road_b l a b ≡ true → b < places) → Paved places l
 table-inside places l long inside = record { long = long; inside = λ a b h r. by a b h r (dec_lt b 128) }
   where
-    by : (a b : ℕ) → a < places → roadB l a b ≡ true → Dec (b < 128) → b < places
+    by : (a b : ℕ) → a < places → road_b l a b ≡ true → Dec (b < 128) → b < places
     by a b h r (yes k) = inside a b h k r
     by a b h r (no k) = absurd (false-not-true r (past-none l long a b (omega arith)))
 
 -- a table that was blank tells what was added
-gained : {R : ℕ → ℕ → Bool} {l l₁ : List ℕ} → l ≡ replicate 256 0 → Gains R l l₁ → (x y : ℕ) → x < 128 → y < 128 → roadB l₁ x y ≡ R x y
-gained {R} {l} e g x y hx hy = g.has x y hx hy ∙ ap (λ r. r || R x y) (ap (λ k. roadB k x y) e ∙ road-none (replicate 256 0) (blank-at 256) x y)
+gained : {R : ℕ → ℕ → Bool} {l l₁ : List ℕ} → l ≡ replicate 256 0 → Gains R l l₁ → (x y : ℕ) → x < 128 → y < 128 → road_b l₁ x y ≡ R x y
+gained {R} {l} e g x y hx hy = g.has x y hx hy ∙ ap (λ r. r || R x y) (ap (λ k. road_b k x y) e ∙ road-none (replicate 256 0) (blank-at 256) x y)
 
 module _ (p : Plan) (ok : WellFormed p) where
   -- the roads of the lists are those of the plan
-  listed-road : (x y : ℕ) → listed p.from p.to p.roads x y ≡ hasRoad p x y
-  listed-road x y = let count : p.roads ≡ roadCount p = omega (arith, ok.roads) in ap (λ n. anyBelow n (isRoad p x y)) count
+  listed-road : (x y : ℕ) → listed p.from p.to p.roads x y ≡ has_road p x y
+  listed-road x y = let count : p.roads ≡ road_count p = omega (arith, ok.roads) in ap (λ n. any_below n (is_road p x y)) count
 
-  listed_back : (x y : ℕ) → listed p.to p.from p.roads x y ≡ hasRoad p y x
+  listed_back : (x y : ℕ) → listed p.to p.from p.roads x y ≡ has_road p y x
   listed_back x y =
-      any_same (λ i. single (get_or p.to i 0) (get_or p.from i 0) x y) (isRoad p y x) p.roads (λ i _. and_comm (eqb (get_or p.to i 0) x) (eqb (get_or p.from i 0) y))
+      any_same (λ i. single (get_or p.to i 0) (get_or p.from i 0) x y) (is_road p y x) p.roads (λ i _. and_comm (eqb (get_or p.to i 0) x) (eqb (get_or p.from i 0) y))
       ∙ listed-road y x
 
-  pub bare-leaves : (l : List ℕ) → ((x y : ℕ) → x < 128 → y < 128 → roadB l x y ≡ hasRoad p x y) → (a : ℕ) → a < 128 → bare l a ≡ not (leaves p a)
+  pub bare-leaves : (l : List ℕ) → ((x y : ℕ) → x < 128 → y < 128 → road_b l x y ≡ has_road p x y) → (a : ℕ) → a < 128 → bare l a ≡ not (leaves p a)
   bare-leaves l tells a h = ap not (bool_same _ _ there back)
     where
-      there : anyBelow 128 (roadB l a) ≡ true → leaves p a ≡ true
+      there : any_below 128 (road_b l a) ≡ true → leaves p a ≡ true
       there e =
-          let m = any-elim (roadB l a) 128 e in
-          let r = any-elim (isRoad p a m.0) (roadCount p) (sym (tells a m.0 h m.1) ∙ m.2) in
-          any-intro (λ i. eqb (get_or p.from i 0) a) (roadCount p) r.0 r.1 (and_left _ (eqb (get_or p.to r.0 0) m.0) r.2)
+          let m = any-elim (road_b l a) 128 e in
+          let r = any-elim (is_road p a m.0) (road_count p) (sym (tells a m.0 h m.1) ∙ m.2) in
+          any-intro (λ i. eqb (get_or p.from i 0) a) (road_count p) r.0 r.1 (and_left _ (eqb (get_or p.to r.0 0) m.0) r.2)
 
-      back : leaves p a ≡ true → anyBelow 128 (roadB l a) ≡ true
+      back : leaves p a ≡ true → any_below 128 (road_b l a) ≡ true
       back e =
-          let r = any-elim (λ i. eqb (get_or p.from i 0) a) (roadCount p) e in
+          let r = any-elim (λ i. eqb (get_or p.from i 0) a) (road_count p) e in
           let b = get_or p.to r.0 0 in
           let below : b < 128 = omega (arith, ok.to r.0, ok.few) in
-          any-intro (roadB l a) 128 b below (tells a b h below ∙ any-intro (isRoad p a b) (roadCount p) r.0 r.1 (and_intro r.2 (eq-eqb b b refl)))
+          any-intro (road_b l a) 128 b below (tells a b h below ∙ any-intro (is_road p a b) (road_count p) r.0 r.1 (and_intro r.2 (eq-eqb b b refl)))
 
   -- a place that is joined to itself is so turned round
   parked-round : (free : ℕ → Bool) (n x y : ℕ) → parked free n x y ≡ parked free n y x
@@ -82,17 +82,17 @@ module _ (p : Plan) (ok : WellFormed p) where
       (marked : Gains (listed p.from p.to p.roads) roads₀ roads₁) (marked-back : Gains (listed p.to p.from p.roads) broads₀ broads₁)
       (stay : Gains (parked (bare roads₁) p.places) roads₁ roads₂) (stay-back : Gains (parked (bare roads₁) p.places) broads₁ broads₂)
       (long : length roads₂ ≡ 256) (long-back : length broads₂ ≡ 256) where
-    tells : (x y : ℕ) → x < 128 → y < 128 → roadB roads₁ x y ≡ hasRoad p x y
+    tells : (x y : ℕ) → x < 128 → y < 128 → road_b roads₁ x y ≡ has_road p x y
     tells x y hx hy = gained blank marked x y hx hy ∙ listed-road x y
 
     parks-so : (x y : ℕ) → x < 128 → parked (bare roads₁) p.places x y ≡ eqb x y && parks p x
     parks-so x y hx = ap (λ f. eqb x y && (ltb x p.places && f)) (bare-leaves roads₁ tells x hx)
 
-    forth : (a b : ℕ) → a < 128 → b < 128 → roadB roads₂ a b ≡ joins p a b
+    forth : (a b : ℕ) → a < 128 → b < 128 → road_b roads₂ a b ≡ joins p a b
     unfolding joins
     forth a b ha hb = stay.has a b ha hb ∙ ap₂ ◌||◌ (tells a b ha hb) (parks-so a b ha)
 
-    back : (a b : ℕ) → a < 128 → b < 128 → roadB broads₂ b a ≡ joins p a b
+    back : (a b : ℕ) → a < 128 → b < 128 → road_b broads₂ b a ≡ joins p a b
     unfolding joins
     back a b ha hb =
         stay-back.has b a hb ha

@@ -5,7 +5,7 @@ ghost use Rattle.std.specs.Prelude.{◌≡◌, ◌+◌, ◌≤◌, ◌<◌, leng
 ghost use Rattle.base.specs.Marks.{marks};
 ghost use Rattle.automata.specs.WellFormed.{Below};
 ghost use Rattle.plan.specs.WellFormed.{WellFormed};
-ghost use Rattle.roadmap.specs.Chart.{roadCell, parkCell, noExit, charted};
+ghost use Rattle.roadmap.specs.Chart.{road_cell, park_cell, no_exit, charted};
 
 use plan::Plan;
 
@@ -19,7 +19,7 @@ fn mark_roads(
     exits: &mut [u8],
 )
     requires { (count ≤ 1024) × (at + 16384 ≤ length table.old) × (length exits.old ≡ 128) × Below 128 from.now × Below 128 to.now }
-    ensures { (table.new ≡ marks (roadCell from.now to.now at) count table.old) × (exits.new ≡ marks (λ i. get_or from.now i 0) count exits.old) }
+    ensures { (table.new ≡ marks (road_cell from.now to.now at) count table.old) × (exits.new ≡ marks (λ i. get_or from.now i 0) count exits.old) }
 {
     let mut i = 0;
     while i < count {
@@ -34,7 +34,7 @@ fn mark_roads(
 // Marks that place u leads to itself, where no road leaves it.
 fn park(exits: &[u8], u: usize, at: usize, table: &mut [u8])
     requires { (u < 128) × (length exits.now ≡ 128) × (at + 16384 ≤ length table.old) }
-    ensures { table.new ≡ set table.old (parkCell (noExit exits.now) at (length table.old) u) 1 }
+    ensures { table.new ≡ set table.old (park_cell (no_exit exits.now) at (length table.old) u) 1 }
 {
     if exits[u] == 0 {
         table[at + (u * 128 + u)] = 1;
@@ -44,7 +44,7 @@ fn park(exits: &[u8], u: usize, at: usize, table: &mut [u8])
 // The same of every place.
 fn park_all(exits: &[u8], places: usize, at: usize, table: &mut [u8])
     requires { (places ≤ 128) × (length exits.now ≡ 128) × (at + 16384 ≤ length table.old) }
-    ensures { table.new ≡ marks (parkCell (noExit exits.now) at (length table.old)) places table.old }
+    ensures { table.new ≡ marks (park_cell (no_exit exits.now) at (length table.old)) places table.old }
 {
     let mut u = 0;
     while u < places {

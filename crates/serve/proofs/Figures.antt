@@ -8,7 +8,7 @@ use mathlib.Core.List.{List, [], ◌∷◌}
 use Prim.Native.Nat.{ℕ, ◌≤◌}
 use native.Mathlib.Omega.{arith}
 use Rattle.serve.proofs.Laws.{upcoming-none}
-use Rattle.serve.specs.Upcoming.{upcomingPlaces}
+use Rattle.serve.specs.Upcoming.{upcoming_places}
 
 abbrev stem : List ℕ
 stem = 5 ∷ 6 ∷ []
@@ -16,20 +16,20 @@ stem = 5 ∷ 6 ∷ []
 abbrev cycle : List ℕ
 cycle = 7 ∷ 8 ∷ 9 ∷ []
 
-pub figure-9-step-1 : upcomingPlaces stem cycle 1 ≡ 6 ∷ []
-unfolding upcomingPlaces
+pub figure-9-step-1 : upcoming_places stem cycle 1 ≡ 6 ∷ []
+unfolding upcoming_places
 figure-9-step-1 = refl
 
-pub figure-9-step-2 : upcomingPlaces stem cycle 2 ≡ 7 ∷ 8 ∷ 9 ∷ []
-unfolding upcomingPlaces
+pub figure-9-step-2 : upcoming_places stem cycle 2 ≡ 7 ∷ 8 ∷ 9 ∷ []
+unfolding upcoming_places
 figure-9-step-2 = refl
 
-pub figure-9-step-6 : upcomingPlaces stem cycle 6 ≡ 8 ∷ 9 ∷ []
-unfolding upcomingPlaces
+pub figure-9-step-6 : upcoming_places stem cycle 6 ≡ 8 ∷ 9 ∷ []
+unfolding upcoming_places
 figure-9-step-6 = refl
 
-pub past-stem-without-cycle : (t : ℕ) → 2 ≤ t → upcomingPlaces stem [] t ≡ []
+pub past-stem-without-cycle : (t : ℕ) → 2 ≤ t → upcoming_places stem [] t ≡ []
 past-stem-without-cycle t past = upcoming-none stem [] t past refl
 
-pub without-stem-or-cycle : (t : ℕ) → upcomingPlaces [] [] t ≡ []
+pub without-stem-or-cycle : (t : ℕ) → upcoming_places [] [] t ≡ []
 without-stem-or-cycle t = upcoming-none [] [] t (omega arith) refl

@@ -1,4 +1,4 @@
--- The laws of `upcomingPlaces`: what it is in each of its three cases, by the two tests of the definition.
+-- The laws of `upcoming_places`: what it is in each of its three cases, by the two tests of the definition.
 --   upcoming-stem     == below the stem's length: the rest of the stem
 --   upcoming-none     == later, with an empty cycle: nothing
 --   upcoming-cycle    == later, with a cycle that is not empty: the rest of this turn of it
@@ -13,20 +13,20 @@ use native.Mathlib.Omega.{arith}
 use borrow.Author.Tests.{lt-ltb, le-ltb, eq-eqb, ne_eqb}
 use lib.ListN.{length, take, drop, length-drop, drop_of_length-le}
 use lib.Seq.{take_all}
-use Rattle.serve.specs.Upcoming.{upcomingPlaces, offset_of, Offset}
+use Rattle.serve.specs.Upcoming.{upcoming_places, offset_of, Offset}
 
 module _ (stem cycle : List ℕ) (t : ℕ) where
-  pub upcoming-stem : t < length stem → upcomingPlaces stem cycle t ≡ drop t stem
-  unfolding upcomingPlaces
+  pub upcoming-stem : t < length stem → upcoming_places stem cycle t ≡ drop t stem
+  unfolding upcoming_places
   upcoming-stem below = rw (lt-ltb t (length stem) below)
 
-  pub upcoming-none : length stem ≤ t → length cycle ≡ 0 → upcomingPlaces stem cycle t ≡ []
-  unfolding upcomingPlaces
+  pub upcoming-none : length stem ≤ t → length cycle ≡ 0 → upcoming_places stem cycle t ≡ []
+  unfolding upcoming_places
   upcoming-none past empty = rw (le-ltb t (length stem) past, eq-eqb (length cycle) 0 empty)
 
   pub upcoming-cycle : length stem ≤ t → 0 < length cycle →
-      upcomingPlaces stem cycle t ≡ drop ((t - length stem) % length cycle) cycle
-  unfolding upcomingPlaces
+      upcoming_places stem cycle t ≡ drop ((t - length stem) % length cycle) cycle
+  unfolding upcoming_places
   upcoming-cycle past some =
       rw (le-ltb t (length stem) past, ne_eqb (length cycle) 0 (λ (e : length cycle ≡ 0). omega arith))
 
@@ -68,8 +68,8 @@ module _ {s l t r : ℕ} (O : Offset s l t r) where
   in-cycle past = rw (le-ltb t s past) at O.inside
 
 module _ (stem cycle : List ℕ) (t r : ℕ) (O : Offset (length stem) (length cycle) t r) where
-  pub serves-stem : t < length stem → take (length stem - r) (drop r stem) ≡ upcomingPlaces stem cycle t
+  pub serves-stem : t < length stem → take (length stem - r) (drop r stem) ≡ upcoming_places stem cycle t
   serves-stem below = part_to_end r stem ∙ sym (rw (lt-ltb t (length stem) below) at (O.serves stem cycle refl refl))
 
-  pub serves-cycle : length stem ≤ t → take (length cycle - r) (drop r cycle) ≡ upcomingPlaces stem cycle t
+  pub serves-cycle : length stem ≤ t → take (length cycle - r) (drop r cycle) ≡ upcoming_places stem cycle t
   serves-cycle past = part_to_end r cycle ∙ sym (rw (le-ltb t (length stem) past) at (O.serves stem cycle refl refl))

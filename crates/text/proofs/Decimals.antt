@@ -15,24 +15,24 @@ use native.Mathlib.Nat.{div-lt_iff_lt-mul, pow-zero, pow-suc}
 use native.Mathlib.Omega.{arith}
 use borrow.Author.Tests.{lt-ltb, le-ltb}
 use lib.ListN.{length, get_or, length-append, get_or-append}
-use Rattle.text.specs.Decimal.{digitsOf, decimal}
+use Rattle.text.specs.Decimal.{digits_of, decimal}
 
-digits-small : (k n : ℕ) → n < 10 → digitsOf (suc k) n ≡ (48 + n) ∷ []
-unfolding digitsOf
+digits-small : (k n : ℕ) → n < 10 → digits_of (suc k) n ≡ (48 + n) ∷ []
+unfolding digits_of
 digits-small k n h = rw (lt-ltb n 10 h)
 
-digits_more : (k n : ℕ) → 10 ≤ n → digitsOf (suc k) n ≡ digitsOf k (n / 10) ++ ((48 + n % 10) ∷ [])
-unfolding digitsOf
+digits_more : (k n : ℕ) → 10 ≤ n → digits_of (suc k) n ≡ digits_of k (n / 10) ++ ((48 + n % 10) ∷ [])
+unfolding digits_of
 digits_more k n h = rw (le-ltb n 10 h)
 
 -- more steps than are needed change nothing
-digits_same : (j k n : ℕ) → n < j → n < k → digitsOf j n ≡ digitsOf k n
+digits_same : (j k n : ℕ) → n < j → n < k → digits_of j n ≡ digits_of k n
 digits_same zero k n hj hk = absurd (omega arith)
 digits_same (suc j) zero n hj hk = absurd (omega arith)
 digits_same (suc j) (suc k) n hj hk = by (digits_same j k (n / 10)) (dec_lt n 10)
   where
-    by : (n / 10 < j → n / 10 < k → digitsOf j (n / 10) ≡ digitsOf k (n / 10)) → Dec (n < 10)
-        → digitsOf (suc j) n ≡ digitsOf (suc k) n
+    by : (n / 10 < j → n / 10 < k → digits_of j (n / 10) ≡ digits_of k (n / 10)) → Dec (n < 10)
+        → digits_of (suc j) n ≡ digits_of (suc k) n
     by tenth (yes h) = digits-small j n h ∙ sym (digits-small k n h)
     by tenth (no h) =
         let big : 10 ≤ n = omega arith in

@@ -18,9 +18,9 @@ use borrow.Author.Tests.{eqb-true, ltb-true, ltb-false}
 use lib.ListN.{length, get_or, length-append, get_or-eq_default}
 use lib.Dec.{ltb, eqb}
 use Rattle.text.specs.Scan.{key_at, number_at, value_of, cap}
-use Rattle.text.specs.Line.{pair, badForm, judged}
-use Rattle.text.specs.List.{Items, items, bad, ahead, entries, itemsAt, under, judgedList, unlisted, listLine}
-use Rattle.text.specs.Runs.{inFront, Ran, listing}
+use Rattle.text.specs.Line.{pair, bad_form, judged}
+use Rattle.text.specs.List.{Items, items, bad, ahead, entries, items_at, under, judged_list, unlisted, list_line}
+use Rattle.text.specs.Runs.{in_front, Ran, listing}
 use Rattle.text.specs.declared.read.Number.{Number}
 use Rattle.text.specs.declared.read.Number.TheVariants.{Value, Bad}
 use Rattle.text.specs.declared.fault.Fault.{Fault}
@@ -36,11 +36,11 @@ use Rattle.text.proofs.Held.{Told, held-told, held-bad}
 use Rattle.text.proofs.Lines.{same-below}
 use Rattle.text.proofs.Lists.{under-append}
 
-front-none : (l : Items) → l ≡ inFront [] l
+front-none : (l : Items) → l ≡ in_front [] l
 front-none (items vs i) = refl
 front-none bad = refl
 
-front-ahead : (vs : List ℕ) (v : ℕ) (l : Items) → inFront vs (ahead v l) ≡ inFront (vs ++ (v ∷ [])) l
+front-ahead : (vs : List ℕ) (v : ℕ) (l : Items) → in_front vs (ahead v l) ≡ in_front (vs ++ (v ∷ [])) l
 front-ahead vs v (items ws i) = rw (append_assoc vs (v ∷ []) ws)
 front-ahead vs v bad = refl
 
@@ -58,7 +58,7 @@ pub record Passed (s : List ℕ) (at bound count : ℕ) (fit : Bool) (next : ℕ
   pub few : count ≤ length s
   pub fits : fit ≡ under bound numbers
   -- what is left from here, behind the numbers passed, is the whole
-  pub same : entries (length s) s at ≡ inFront numbers (entries (length s - count) s next)
+  pub same : entries (length s) s at ≡ in_front numbers (entries (length s - count) s next)
 
 -- n is the number at index i, held
 told : (s : List ℕ) (i e : ℕ) (n : Number) → n ≡ cap (number_at s i e) → (x next : ℕ) → n ≡ Value x next → Told (number_at s i e) x next
@@ -143,43 +143,43 @@ module _ (s : List ℕ) (at : ℕ) where
       by false h = let z : ◌≡◌ {A = ℕ} 0 10 = sym (get_or-eq_default s 0 (ltb-false at (length s) h)) ∙ eqb-true (get_or s at 0) 10 e in absurd (omega arith)
 
   module _ (bound : ℕ) where
-    pub list-empty : eqb (get_or s at 0) 10 ≡ true → found.Items (record { count = 0; fit = true; next = at + 1 }) ≡ listing bound (itemsAt s at)
-    unfolding itemsAt under
+    pub list-empty : eqb (get_or s at 0) 10 ≡ true → found.Items (record { count = 0; fit = true; next = at + 1 }) ≡ listing bound (items_at s at)
+    unfolding items_at under
     list-empty e = rw e
 
-    pub list-entries : eqb (get_or s at 0) 10 ≡ false → listing bound (entries (length s) s at) ≡ listing bound (itemsAt s at)
-    unfolding itemsAt
+    pub list-entries : eqb (get_or s at 0) 10 ≡ false → listing bound (entries (length s) s at) ≡ listing bound (items_at s at)
+    unfolding items_at
     list-entries e = rw e
 
 module _ (s : List ℕ) (l : Line) (key : List ℕ) (bound : ℕ) where
-  pub list-fault : (f : Fault) → l ≡ line.Fault f → unlisted l ≡ listLine s l key bound
-  unfolding listLine
+  pub list-fault : (f : Fault) → l ≡ line.Fault f → unlisted l ≡ list_line s l key bound
+  unfolding list_line
   list-fault f p = rw p
 
   module _ (xs : Numbers) (c : Cursor) (p : l ≡ line.Numbers xs c) (n : Number) (k : n ≡ key_at s c.at key) where
-    pub list-keyless : n ≡ Bad → unlisted (badForm s c.at) ≡ listLine s l key bound
-    unfolding listLine
+    pub list-keyless : n ≡ Bad → unlisted (bad_form s c.at) ≡ list_line s l key bound
+    unfolding list_line
     list-keyless e = rw (p, ← k, e)
 
-    module _ (v at : ℕ) (e : n ≡ Value v at) (f : Listing) (g : f ≡ listing bound (itemsAt s at)) where
-      pub list-bad : f ≡ found.Bad → unlisted (badForm s c.at) ≡ listLine s l key bound
-      unfolding listLine
-      list-bad z = rw (p, ← k, e) (by (itemsAt s at) (sym z ∙ g))
+    module _ (v at : ℕ) (e : n ≡ Value v at) (f : Listing) (g : f ≡ listing bound (items_at s at)) where
+      pub list-bad : f ≡ found.Bad → unlisted (bad_form s c.at) ≡ list_line s l key bound
+      unfolding list_line
+      list-bad z = rw (p, ← k, e) (by (items_at s at) (sym z ∙ g))
         where
-          by : (i : Items) → found.Bad ≡ listing bound i → unlisted (badForm s c.at) ≡ judgedList s c.at at i bound
+          by : (i : Items) → found.Bad ≡ listing bound i → unlisted (bad_form s c.at) ≡ judged_list s c.at at i bound
           by (items vs next) h = let z : ◌≡◌ {A = ℕ} 0 1 = cc in absurd (omega arith)
           by bad h = refl
 
       pub list-good : (r : Run) → f ≡ found.Items r
           → ◌≡◌ {A = ListLine}
           (record { line = judged s c.at r.next r.fit (pair 0 0); list = record { at = at; count = r.count } })
-          (listLine s l key bound)
-      unfolding listLine
-      list-good r z = rw (p, ← k, e) (by (itemsAt s at) (sym z ∙ g))
+          (list_line s l key bound)
+      unfolding list_line
+      list-good r z = rw (p, ← k, e) (by (items_at s at) (sym z ∙ g))
         where
           by : (i : Items) → found.Items r ≡ listing bound i
               → ◌≡◌ {A = ListLine}
               (record { line = judged s c.at r.next r.fit (pair 0 0); list = record { at = at; count = r.count } })
-              (judgedList s c.at at i bound)
+              (judged_list s c.at at i bound)
           by (items vs next) h = let w : r ≡ record { count = length vs; fit = under bound vs; next = next } = cc h in rw w
           by bad h = let z : ◌≡◌ {A = ℕ} 0 1 = cc in absurd (omega arith)

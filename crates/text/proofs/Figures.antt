@@ -2,10 +2,10 @@
 --   figure-list == numbers are joined by commas, and no comma stands after the last
 use mathlib.Core.Path.{◌≡◌, refl}
 use mathlib.Core.List.{[], ◌∷◌}
-use Rattle.text.specs.Decimal.{digitsOf, decimal}
+use Rattle.text.specs.Decimal.{digits_of, decimal}
 use Rattle.text.specs.KeyLine.{commaed, joined}
 
 -- 0,10,127
 pub figure-list : joined (0 ∷ 10 ∷ 127 ∷ []) ≡ 48 ∷ 44 ∷ 49 ∷ 48 ∷ 44 ∷ 49 ∷ 50 ∷ 55 ∷ []
-unfolding digitsOf decimal commaed joined
+unfolding digits_of decimal commaed joined
 figure-list = refl

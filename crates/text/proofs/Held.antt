@@ -8,7 +8,7 @@ use mathlib.Core.Path.{◌≡◌, refl, sym, ap, ◌∙◌}
 use mathlib.Core.List.{List}
 use Prim.Native.Nat.{ℕ, min}
 use native.Mathlib.Omega.{arith}
-use Rattle.text.specs.Scan.{nextNumber, elseNumber, either, value_of, cap}
+use Rattle.text.specs.Scan.{next_number, else_number, either, value_of, cap}
 use Rattle.text.specs.declared.read.Number.{Number}
 use Rattle.text.specs.declared.read.Number.TheVariants.{Value, Bad}
 
@@ -48,12 +48,12 @@ value-cap Bad = refl
 pub held-value : (n m : Number) (x : ℕ) → Held n m → x ≡ value_of m → x ≡ min (value_of n) 4000000000
 held-value n m x h e = e ∙ ap value_of h.same ∙ value-cap n
 
-next-cap : (s : List ℕ) (n : Number) (e : ℕ) → nextNumber s (cap n) e ≡ nextNumber s n e
+next-cap : (s : List ℕ) (n : Number) (e : ℕ) → next_number s (cap n) e ≡ next_number s n e
 unfolding cap
 next-cap s (Value v i) e = refl
 next-cap s Bad e = refl
 
-else-cap : (s : List ℕ) (n m : Number) (e : ℕ) → elseNumber s (cap n) (cap m) e ≡ elseNumber s n m e
+else-cap : (s : List ℕ) (n m : Number) (e : ℕ) → else_number s (cap n) (cap m) e ≡ else_number s n m e
 unfolding cap
 else-cap s (Value v i) m e = refl
 else-cap s Bad m e = next-cap s m e
@@ -65,13 +65,13 @@ either-cap Bad m = refl
 
 -- r is what a step made of the exact k, or of held numbers
 module _ (s : List ℕ) (e : ℕ) where
-  pub first-held : (k n r : Number) → k ≡ n → r ≡ cap (nextNumber s k e) → Held (nextNumber s n e) r
-  first-held k n r h g = record { same = g ∙ ap (λ x. cap (nextNumber s x e)) h }
+  pub first-held : (k n r : Number) → k ≡ n → r ≡ cap (next_number s k e) → Held (next_number s n e) r
+  first-held k n r h g = record { same = g ∙ ap (λ x. cap (next_number s x e)) h }
 
-  pub next-held : (n m r : Number) → Held n m → r ≡ cap (nextNumber s m e) → Held (nextNumber s n e) r
-  next-held n m r h g = record { same = g ∙ ap (λ x. cap (nextNumber s x e)) h.same ∙ ap cap (next-cap s n e) }
+  pub next-held : (n m r : Number) → Held n m → r ≡ cap (next_number s m e) → Held (next_number s n e) r
+  next-held n m r h g = record { same = g ∙ ap (λ x. cap (next_number s x e)) h.same ∙ ap cap (next-cap s n e) }
 
-  pub else-held : (n m p q r : Number) → Held n m → Held p q → r ≡ cap (elseNumber s m q e) → Held (elseNumber s n p e) r
+  pub else-held : (n m p q r : Number) → Held n m → Held p q → r ≡ cap (else_number s m q e) → Held (else_number s n p e) r
   else-held n m p q r h g k = record { same = k ∙ rw (h.same, g.same) (ap cap (else-cap s n p e)) }
 
 pub either_held : (n m p q r : Number) → Held n m → Held p q → r ≡ either m q → Held (either n p) r

@@ -14,7 +14,7 @@ use lib.ListN.{length, drop, get_or, length-append}
 use lib.Seq.{drop-cons}
 use Rattle.text.proofs.Decimals.{decimal-length}
 use Rattle.text.specs.Decimal.{decimal}
-use Rattle.text.specs.KeyLine.{commaed, joined, keyLine}
+use Rattle.text.specs.KeyLine.{commaed, joined, key_line}
 
 pub commaed-next : (ns : List ℕ) (i : ℕ) → i < length ns
     → commaed (drop i ns) ≡ 44 ∷ (decimal (get_or ns i 0) ++ commaed (drop (i + 1) ns))
@@ -46,6 +46,6 @@ joined_length (n ∷ ns) h =
 pub number-length : (x : ℕ) → x < 4294967296 → length (decimal x) ≤ 10
 number-length x h = decimal-length 10 x (omega arith) (omega arith)
 
-pub line-length : (key value : List ℕ) → length (keyLine key value) ≡ length key + length value + 1
-unfolding keyLine
+pub line-length : (key value : List ℕ) → length (key_line key value) ≡ length key + length value + 1
+unfolding key_line
 line-length key value = simp length-append (omega arith)

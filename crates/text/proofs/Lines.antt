@@ -16,8 +16,8 @@ use native.Mathlib.Omega.{arith}
 use lib.Dec.{ltb}
 use borrow.Author.Tests.{ltb-true, ltb-false, lt-ltb, le-ltb}
 use Rattle.text.specs.Fault as fault
-use Rattle.text.specs.Scan.{key_at, nextNumber, value_of, line_at}
-use Rattle.text.specs.Line.{pair, badForm, judged, closed, within, lineOfOne, numbersOf, OneRead, good}
+use Rattle.text.specs.Scan.{key_at, next_number, value_of, line_at}
+use Rattle.text.specs.Line.{pair, bad_form, judged, closed, within, line_of_one, numbers_of, OneRead, good}
 use Rattle.text.specs.declared.fault.Fault.{Fault}
 use Rattle.text.specs.declared.read.Number.{Number}
 use Rattle.text.specs.declared.read.Number.TheVariants.{Value, Bad}
@@ -72,22 +72,22 @@ module _ (s : List ℕ) (at next : ℕ) where
 
 -- a line that stands behind one with a fault
 module _ (s : List ℕ) (l : Line) (key : List ℕ) (f : Fault) (p : l ≡ line.Fault f) where
-  pub one-fault : (low bound : ℕ) → l ≡ lineOfOne s l key low bound
-  unfolding lineOfOne
+  pub one-fault : (low bound : ℕ) → l ≡ line_of_one s l key low bound
+  unfolding line_of_one
   one-fault low bound = rw p
 
 -- a line that stands behind one without a fault
 module _ (s : List ℕ) (l : Line) (key : List ℕ) (xs : Numbers) (c : Cursor) (p : l ≡ line.Numbers xs c) where
   abbrev first : ℕ → Number
-  first e = nextNumber s (key_at s c.at key) e
+  first e = next_number s (key_at s c.at key) e
 
-  pub one-bad : (low bound : ℕ) → first 10 ≡ Bad → badForm s c.at ≡ lineOfOne s l key low bound
-  unfolding lineOfOne
+  pub one-bad : (low bound : ℕ) → first 10 ≡ Bad → bad_form s c.at ≡ line_of_one s l key low bound
+  unfolding line_of_one
   one-bad low bound e = rw (p, e)
 
   pub one-good : (low bound x n : ℕ) → bound ≤ 4000000000 → Told (first 10) x n
-      → judged s c.at n (within x low bound) (pair x 0) ≡ lineOfOne s l key low bound
-  unfolding lineOfOne
+      → judged s c.at n (within x low bound) (pair x 0) ≡ line_of_one s l key low bound
+  unfolding line_of_one
   one-good low bound x n h a = one-held s c.at n (value_of (first 10)) x low bound a.held h ∙ rw (p, a.is)
 
 -- what a line leads to
@@ -109,19 +109,19 @@ module _ (s : List ℕ) (Q : Numbers → Type 0) (l : Line) where
   closed-led g at (Value v i) false xs f = here at refl
 
   pub low : (f : Numbers → ℕ) (bound : ℕ) → f (pair 0 0) ≡ 0 → ((xs : Numbers) → Q xs → f xs < bound) → (r : Line) → Led s Q l r
-      → f (numbersOf r) ≤ bound - 1
+      → f (numbers_of r) ≤ bound - 1
   low f bound z h (line.Numbers xs c) g = omega (arith, h xs g.1)
   low f bound z h (line.Fault e) g = omega (arith, z)
 
 module _ (s : List ℕ) where
-  pub one-led : (l : Line) (key : List ℕ) (low bound : ℕ) → Led s (First low bound) l (lineOfOne s l key low bound)
-  unfolding lineOfOne
+  pub one-led : (l : Line) (key : List ℕ) (low bound : ℕ) → Led s (First low bound) l (line_of_one s l key low bound)
+  unfolding line_of_one
   one-led (line.Fault f) key low bound = before refl
   one-led (line.Numbers xs c) key low bound =
-      closed-led s (First low bound) (line.Numbers xs c) refl c.at (nextNumber s (key_at s c.at key) 10) _ _ (λ e. e)
+      closed-led s (First low bound) (line.Numbers xs c) refl c.at (next_number s (key_at s c.at key) 10) _ _ (λ e. e)
 
 module _ (s : List ℕ) (l : Line) (key : List ℕ) where
-  pub one-is : (least bound : ℕ) (r : Line) → r ≡ lineOfOne s l key least bound → OneRead (lineOfOne s l key least bound) bound r
+  pub one-is : (least bound : ℕ) (r : Line) → r ≡ line_of_one s l key least bound → OneRead (line_of_one s l key least bound) bound r
   one-is least bound r e =
       let led = subst (λ x. Led s (First least bound) l x) (sym e) (one-led s l key least bound) in
       record { same = e; first-low = low s (First least bound) l (λ xs. xs.first) bound refl (λ xs h. (within_both xs.first least bound h).1) r led }

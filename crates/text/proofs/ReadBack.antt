@@ -16,24 +16,24 @@ use borrow.Author.Tests.{lt-ltb, le-ltb, le-leb, eq-eqb, ne_eqb}
 use lib.ListN.{length, drop, get_or, length-append, get_or-append}
 use lib.Seq.{get_or-append_seam}
 use lib.Dec.{eqb}
-use Rattle.text.specs.Scan.{isDigit, canonical, digitCount, value, leading, number_at}
+use Rattle.text.specs.Scan.{is_digit, canonical, digit_count, value, leading, number_at}
 use Rattle.text.specs.Decimal.{decimal}
 use Rattle.text.specs.declared.read.Number.TheVariants.{Value, Bad}
 use Rattle.text.proofs.Decimals.{decimal-small, decimal-more, decimal-each, decimal-some, decimal-lead}
 
 abbrev Digits : List ℕ → Type 0
-Digits s = digitCount s ≡ length s
+Digits s = digit_count s ≡ length s
 
-first-digit : (b : ℕ) (s : List ℕ) → Digits (b ∷ s) → (isDigit b ≡ true) × Digits s
-unfolding digitCount
-first-digit b s e = by (isDigit b) e
+first-digit : (b : ℕ) (s : List ℕ) → Digits (b ∷ s) → (is_digit b ≡ true) × Digits s
+unfolding digit_count
+first-digit b s e = by (is_digit b) e
   where
-    by : (t : Bool) → cond t (digitCount s + 1) 0 ≡ suc (length s) → (t ≡ true) × Digits s
+    by : (t : Bool) → cond t (digit_count s + 1) 0 ≡ suc (length s) → (t ≡ true) × Digits s
     by true h = (refl, omega arith)
     by false h = absurd (omega arith)
 
-count-append : (s t : List ℕ) → Digits s → digitCount (s ++ t) ≡ length s + digitCount t
-unfolding digitCount
+count-append : (s t : List ℕ) → Digits s → digit_count (s ++ t) ≡ length s + digit_count t
+unfolding digit_count
 count-append [] t h = omega arith
 count-append (b ∷ s) t h =
     let d = first-digit b s h in
@@ -48,12 +48,12 @@ value-append (b ∷ s) t v h =
 
 -- the byte of a digit d
 module _ (d : ℕ) (h : d < 10) where
-  glyph-digit : isDigit (48 + d) ≡ true
-  unfolding isDigit
+  glyph-digit : is_digit (48 + d) ≡ true
+  unfolding is_digit
   glyph-digit = rw (le-ltb (48 + d) 48 (omega arith), le-leb (48 + d) 57 (omega arith))
 
-  glyph-count : digitCount ((48 + d) ∷ []) ≡ 1
-  unfolding digitCount
+  glyph-count : digit_count ((48 + d) ∷ []) ≡ 1
+  unfolding digit_count
   glyph-count = rw glyph-digit
 
   glyph-value : (v : ℕ) → value v ((48 + d) ∷ []) ≡ v * 10 + d
@@ -82,12 +82,12 @@ decimal-canonical (suc n) =
       ne_eqb (get_or (decimal (suc n)) 0 0) 48 (λ e. omega (arith, decimal-lead (suc n) (omega arith))),
     )
 
-module _ (n e : ℕ) (rest : List ℕ) (h : isDigit e ≡ false) where
+module _ (n e : ℕ) (rest : List ℕ) (h : is_digit e ≡ false) where
   abbrev whole : List ℕ
   whole = decimal n ++ (e ∷ rest)
 
-  whole-count : digitCount whole ≡ length (decimal n)
-  unfolding digitCount
+  whole-count : digit_count whole ≡ length (decimal n)
+  unfolding digit_count
   whole-count = count-append (decimal n) (e ∷ rest) (decimal-digits n) ∙ rw (h, add-zero)
 
   whole-value : value 0 whole ≡ n

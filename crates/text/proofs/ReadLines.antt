@@ -23,11 +23,11 @@ use native.Mathlib.Omega.{arith}
 use borrow.Author.Tests.{lt-ltb, le-ltb, eq-eqb, ne_eqb}
 use lib.ListN.{length, drop, get_or, length-append, length-drop, get_or-append}
 use lib.Seq.{drop-drop, drop-append_seam, get_or-drop}
-use Rattle.text.specs.Scan.{starts_with, isDigit, key_at, nextNumber, number_at}
+use Rattle.text.specs.Scan.{starts_with, is_digit, key_at, next_number, number_at}
 use Rattle.text.specs.Decimal.{decimal}
-use Rattle.text.specs.KeyLine.{commaed, joined, keyLine}
-use Rattle.text.specs.Line.{pair, within, lineOfOne, finish}
-use Rattle.text.specs.List.{items, last, entries, itemsAt, under, listLine, places_of}
+use Rattle.text.specs.KeyLine.{commaed, joined, key_line}
+use Rattle.text.specs.Line.{pair, within, line_of_one, finish}
+use Rattle.text.specs.List.{items, last, entries, items_at, under, list_line, places_of}
 use Rattle.text.specs.declared.read.Number.TheVariants.{Value, Bad}
 use Rattle.text.specs.declared.line.Numbers.{Numbers}
 use Rattle.text.specs.declared.line.Line.TheVariants as line
@@ -54,9 +54,9 @@ pub key_back : (s : List ℕ) (at : ℕ) (key rest : List ℕ) → drop at s ≡
 unfolding key_at
 key_back s at key rest k = rw (k, starts key rest)
 
-module _ (s : List ℕ) (at : ℕ) (key value rest : List ℕ) (k : drop at s ≡ keyLine key value ++ rest) where
+module _ (s : List ℕ) (at : ℕ) (key value rest : List ℕ) (k : drop at s ≡ key_line key value ++ rest) where
   parts : drop at s ≡ key ++ (value ++ (10 ∷ rest))
-  unfolding keyLine
+  unfolding key_line
   parts = k ∙ simp append_assoc
 
   line-key : key_at s at key ≡ Value 0 (at + length key)
@@ -65,19 +65,19 @@ module _ (s : List ℕ) (at : ℕ) (key value rest : List ℕ) (k : drop at s �
   line-value : drop (at + length key) s ≡ value ++ (10 ∷ rest)
   line-value = drop_past s at key (value ++ (10 ∷ rest)) parts
 
-  pub line-rest : drop (at + length (keyLine key value)) s ≡ rest
-  line-rest = drop_past s at (keyLine key value) rest k
+  pub line-rest : drop (at + length (key_line key value)) s ≡ rest
+  line-rest = drop_past s at (key_line key value) rest k
 
-  line-end : at + length key + length value + 1 ≡ at + length (keyLine key value)
+  line-end : at + length key + length value + 1 ≡ at + length (key_line key value)
   line-end = rw (line-length key value) (omega arith)
 
 pub within-from-0 : (x bound : ℕ) → x < bound → within x 0 bound ≡ true
 unfolding within
 within-from-0 x bound h = rw (le-ltb x 0 (omega arith), lt-ltb x bound h)
 
-module _ (s : List ℕ) (at : ℕ) (key : List ℕ) (v : ℕ) (rest : List ℕ) (k : drop at s ≡ keyLine key (decimal v) ++ rest) where
-  pub value-back : nextNumber s (key_at s at key) 10 ≡ Value v (at + length (keyLine key (decimal v)))
-  unfolding isDigit
+module _ (s : List ℕ) (at : ℕ) (key : List ℕ) (v : ℕ) (rest : List ℕ) (k : drop at s ≡ key_line key (decimal v) ++ rest) where
+  pub value-back : next_number s (key_at s at key) 10 ≡ Value v (at + length (key_line key (decimal v)))
+  unfolding is_digit
   value-back =
       rw (
         line-key s at key (decimal v) rest k,
@@ -86,9 +86,9 @@ module _ (s : List ℕ) (at : ℕ) (key : List ℕ) (v : ℕ) (rest : List ℕ) 
       )
 
   pub one-back : (low bound : ℕ) → within v low bound ≡ true → (xs : Numbers)
-      → lineOfOne s (line.Numbers xs (record { at = at })) key low bound
-      ≡ line.Numbers (pair v 0) (record { at = at + length (keyLine key (decimal v)) })
-  unfolding lineOfOne
+      → line_of_one s (line.Numbers xs (record { at = at })) key low bound
+      ≡ line.Numbers (pair v 0) (record { at = at + length (key_line key (decimal v)) })
+  unfolding line_of_one
   one-back low bound fit xs = rw (value-back, fit)
 
 entries-last : (k : ℕ) (s : List ℕ) (at : ℕ) → number_at s at 44 ≡ Bad → entries k s at ≡ last (number_at s at 10)
@@ -98,7 +98,7 @@ entries-last (suc k) s at none = rw none
 
 entries-back : (vs : List ℕ) (k : ℕ) → length vs ≤ k → (s : List ℕ) (at v : ℕ) (rest : List ℕ) → drop at s ≡ joined (v ∷ vs) ++ (10 ∷ rest)
     → entries k s at ≡ items (v ∷ vs) (at + length (joined (v ∷ vs)) + 1)
-unfolding entries joined commaed isDigit
+unfolding entries joined commaed is_digit
 entries-back [] k few s at v rest e =
     let here : drop at s ≡ decimal v ++ (10 ∷ rest) = e ∙ rw append-nil in
     rw (entries-last k s at (number-other v 10 rest refl s at 44 here refl), read_back v 10 rest refl s at here, append-nil)
@@ -117,8 +117,8 @@ commas-fit [] = omega arith
 commas-fit (v ∷ vs) = simp length-append (omega (arith, commas-fit vs))
 
 items_back : (vs : List ℕ) (s : List ℕ) (at : ℕ) (rest : List ℕ) → drop at s ≡ joined vs ++ (10 ∷ rest)
-    → itemsAt s at ≡ items vs (at + length (joined vs) + 1)
-unfolding itemsAt joined
+    → items_at s at ≡ items vs (at + length (joined vs) + 1)
+unfolding items_at joined
 items_back [] s at rest e = rw (first-at s at, e, add-zero at)
 items_back (v ∷ vs) s at rest e =
     let digits = get_or-append (decimal v) (commaed vs ++ (10 ∷ rest)) 0 0 (decimal-some v) in
@@ -126,17 +126,17 @@ items_back (v ∷ vs) s at rest e =
     let few : length vs ≤ length s = omega (arith, commas-fit vs, length-drop at s, simp length-append at (ap length e)) in
     rw (first, ne_eqb (get_or (decimal v) 0 0) 10 (λ z. omega (arith, decimal-first v)), entries-back vs (length s) few s at v rest e)
 
-module _ (s : List ℕ) (at : ℕ) (key vs rest : List ℕ) (k : drop at s ≡ keyLine key (joined vs) ++ rest) where
-  line-items : itemsAt s (at + length key) ≡ items vs (at + length (keyLine key (joined vs)))
+module _ (s : List ℕ) (at : ℕ) (key vs rest : List ℕ) (k : drop at s ≡ key_line key (joined vs) ++ rest) where
+  line-items : items_at s (at + length key) ≡ items vs (at + length (key_line key (joined vs)))
   line-items = rw (items_back vs s (at + length key) rest (line-value s at key (joined vs) rest k), line-end s at key (joined vs) rest k)
 
   pub list_back : (bound : ℕ) → under bound vs ≡ true → (xs : Numbers)
-      → ◌≡◌ {A = ListLine} (listLine s (line.Numbers xs (record { at = at })) key bound)
+      → ◌≡◌ {A = ListLine} (list_line s (line.Numbers xs (record { at = at })) key bound)
       (record {
-        line = line.Numbers (pair 0 0) (record { at = at + length (keyLine key (joined vs)) });
+        line = line.Numbers (pair 0 0) (record { at = at + length (key_line key (joined vs)) });
         list = record { at = at + length key; count = length vs };
       })
-  unfolding listLine
+  unfolding list_line
   list_back bound fit xs = rw (line-key s at key (joined vs) rest k, line-items, fit)
 
   pub places-back : places_of s (record { at = at + length key; count = length vs }) ≡ vs

@@ -11,15 +11,15 @@ use native.Mathlib.Nat.{add-zero}
 use lib.ListN.{length, drop, get_or, drop_of_length-le, length-drop}
 use lib.Seq.{drop-cons, get_or-drop}
 use borrow.Author.Tests.{lt-ltb, le-ltb, ltb-false, leb-true, eq-eqb, ne_eqb}
-use Rattle.text.specs.Scan.{isDigit, canonical, digitCount, value, leading, number_at, cap}
+use Rattle.text.specs.Scan.{is_digit, canonical, digit_count, value, leading, number_at, cap}
 use Rattle.text.specs.declared.read.Number.TheVariants.{Value, Bad}
 
 last-two : (t u : Bool) → cond t false u ≡ true → (t ≡ false) × (u ≡ true)
 last-two true u e = let z : ◌≡◌ {A = ℕ} 0 1 = cc in absurd (omega arith)
 last-two false u e = (refl, e)
 
-pub digit-range : (b : ℕ) → isDigit b ≡ true → (48 ≤ b) × (b ≤ 57)
-unfolding isDigit
+pub digit-range : (b : ℕ) → is_digit b ≡ true → (48 ≤ b) × (b ≤ 57)
+unfolding is_digit
 digit-range b e = let h = last-two _ _ e in (ltb-false b 48 h.0, leb-true b 57 h.1)
 
 module _ (M : ℕ) where
@@ -33,26 +33,26 @@ module _ (M : ℕ) where
   held : (d : List ℕ) (v : ℕ) → min (value v d) M ≡ min (value (min v M) d) M
   unfolding value
   held [] v = omega arith
-  held (b ∷ d) v = held_more (isDigit b) v (b - 48) d (held d)
+  held (b ∷ d) v = held_more (is_digit b) v (b - 48) d (held d)
 
 module _ (s : List ℕ) (i : ℕ) where
-  pub none-past : length s ≤ i → digitCount (drop i s) ≡ 0
-  unfolding digitCount
+  pub none-past : length s ≤ i → digit_count (drop i s) ≡ 0
+  unfolding digit_count
   none-past h = rw (drop_of_length-le s h)
 
   module _ (h : i < length s) where
-    module _ (e : isDigit (get_or s i 0) ≡ false) where
-      pub none_here : digitCount (drop i s) ≡ 0
-      unfolding digitCount
+    module _ (e : is_digit (get_or s i 0) ≡ false) where
+      pub none_here : digit_count (drop i s) ≡ 0
+      unfolding digit_count
       none_here = rw (drop-cons s i 0 h, e)
 
       pub value-here : (v : ℕ) → value v (drop i s) ≡ v
       unfolding value
       value-here v = rw (drop-cons s i 0 h, e)
 
-    module _ (e : isDigit (get_or s i 0) ≡ true) where
-      pub digit-count-more : digitCount (drop i s) ≡ digitCount (drop (i + 1) s) + 1
-      unfolding digitCount
+    module _ (e : is_digit (get_or s i 0) ≡ true) where
+      pub digit-count-more : digit_count (drop i s) ≡ digit_count (drop (i + 1) s) + 1
+      unfolding digit_count
       digit-count-more = rw (drop-cons s i 0 h, e, add-one i)
 
       value-more : (v : ℕ) → value v (drop i s) ≡ value (v * 10 + (get_or s i 0 - 48)) (drop (i + 1) s)
@@ -63,7 +63,7 @@ module _ (s : List ℕ) (i : ℕ) where
       held-value M v = ap (λ (w : ℕ). min w M) (value-more v) ∙ held M (drop (i + 1) s) _
 
 -- the digits from `at` on end at index i
-module _ (s : List ℕ) (at i e : ℕ) (from : at ≤ i) (count : digitCount (drop at s) ≡ i - at) where
+module _ (s : List ℕ) (at i e : ℕ) (from : at ≤ i) (count : digit_count (drop at s) ≡ i - at) where
   pub ends-text : length s ≤ i → Bad ≡ cap (number_at s at e)
   unfolding number_at leading cap
   ends-text h = let g : length (drop at s) ≤ i - at = simp length-drop (omega arith) in rw (count, le-ltb _ _ g)

@@ -18,7 +18,7 @@ use lib.ListN.{length, drop, get_or, set, length-drop, drop_of_length-le}
 use lib.Seq.{drop-cons}
 use lib.Dec.{ltb, eqb}
 use Rattle.text.specs.Scan.{number_at, cap}
-use Rattle.text.specs.List.{Items, items, bad, ahead, last, entry, entries, itemsAt, numbersIn}
+use Rattle.text.specs.List.{Items, items, bad, ahead, last, entry, entries, items_at, numbers_in}
 use Rattle.text.specs.Runs.{Stands}
 use Rattle.text.specs.Over.{Left}
 use Rattle.text.specs.declared.read.Number.{Number}
@@ -73,12 +73,12 @@ abbrev end_of : Items → ℕ
 end_of (items vs i) = i
 end_of bad = 0
 
-pub items-entries : (s : List ℕ) (at : ℕ) → 0 < length (numbersIn (itemsAt s at))
-    → entries (length s) s at ≡ items (numbersIn (itemsAt s at)) (end_of (entries (length s) s at))
-unfolding itemsAt
+pub items-entries : (s : List ℕ) (at : ℕ) → 0 < length (numbers_in (items_at s at))
+    → entries (length s) s at ≡ items (numbers_in (items_at s at)) (end_of (entries (length s) s at))
+unfolding items_at
 items-entries s at h = by (eqb (get_or s at 0) 10) (entries (length s) s at) h
   where
-    by : (t : Bool) (l : Items) → 0 < length (numbersIn (cond t (items [] (at + 1)) l)) → l ≡ items (numbersIn (cond t (items [] (at + 1)) l)) (end_of l)
+    by : (t : Bool) (l : Items) → 0 < length (numbers_in (cond t (items [] (at + 1)) l)) → l ≡ items (numbers_in (cond t (items [] (at + 1)) l)) (end_of l)
     by true l h = absurd (omega arith)
     by false (items vs i) h = refl
     by false bad h = absurd (omega arith)
@@ -88,12 +88,12 @@ pub record Put (s : List ℕ) (at count : ℕ) (before after : List ℕ) (next n
   pub done : n ≤ count
   pub fuel : ℕ
   pub end : ℕ
-  pub rest : n < count → entries fuel s next ≡ items (drop n (numbersIn (itemsAt s at))) end
-  pub bytes : Left before 0 (numbersIn (itemsAt s at)) after n (drop n (numbersIn (itemsAt s at)))
+  pub rest : n < count → entries fuel s next ≡ items (drop n (numbers_in (items_at s at))) end
+  pub bytes : Left before 0 (numbers_in (items_at s at)) after n (drop n (numbers_in (items_at s at)))
 
 module _ (s : List ℕ) (at count : ℕ) where
   abbrev places : List ℕ
-  places = numbersIn (itemsAt s at)
+  places = numbers_in (items_at s at)
 
   pub put-start : Stands s (record { at = at; count = count }) → (before : List ℕ) → count ≤ length before → Put s at count before before at 0
   put-start h before room = record {

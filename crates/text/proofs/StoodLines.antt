@@ -12,7 +12,7 @@
 --   Follows s l text r    == the line r behind the line l: the fault of l again, or a fault of the line that begins where l ends, or
 --                            `text` stands from there to where r ends
 --   follows-good          == a line without a fault is behind one without a fault, and stands there
---   numberLine s l key fit == a line `key=a` behind l, its number judged by fit
+--   number_line s l key fit == a line `key=a` behind l, its number judged by fit
 --   number-follows        == it follows l as key and decimal number
 --   one_follows           == so does a line of one number in a range
 --   ListFollows s l key bound r
@@ -24,7 +24,7 @@
 --   newlines-decimal, newlines-joined == numbers have no line end
 --   newlines-line         == a line whose key and value have none has one
 --   stood-newlines        == the line ends up to what stands there, and with it
---   faultLine l           == the line of s that has the fault of l, 0 of none
+--   fault_line l           == the line of s that has the fault of l, 0 of none
 --   Begun s k l           == l comes behind k lines of s: so many line ends are passed, or one of those lines has the fault
 --   begun-top, begun-next == so it is before the first line, and from line to line
 --   begun-finish          == bytes behind the last line are the next one
@@ -39,11 +39,11 @@ use lib.Dec.{ltb, eqb}
 use lib.ListN.{length, take, drop, get_or, length-append, length-drop}
 use lib.Seq.{drop-cons, drop-drop, take-add, take-append_seam}
 use Rattle.text.specs.Fault as fault
-use Rattle.text.specs.Scan.{starts_with, number_at, key_at, nextNumber, value_of, newlines, line_at}
-use Rattle.text.specs.Line.{behind, pair, badForm, closed, within, lineOfOne, first_of, top, finish, good}
-use Rattle.text.specs.List.{Items, items, bad, ahead, last, entry, entries, itemsAt, under, judgedList, listBehind, listLine, places_of}
+use Rattle.text.specs.Scan.{starts_with, number_at, key_at, next_number, value_of, newlines, line_at}
+use Rattle.text.specs.Line.{behind, pair, bad_form, closed, within, line_of_one, first_of, top, finish, good}
+use Rattle.text.specs.List.{Items, items, bad, ahead, last, entry, entries, items_at, under, judged_list, list_behind, list_line, places_of}
 use Rattle.text.specs.Decimal.{decimal}
-use Rattle.text.specs.KeyLine.{commaed, joined, keyLine}
+use Rattle.text.specs.KeyLine.{commaed, joined, key_line}
 use Rattle.text.specs.declared.fault.Fault.{Fault}
 use Rattle.text.specs.declared.fault.Fault.TheVariants.{Range}
 use Rattle.text.specs.declared.read.Number.{Number}
@@ -114,8 +114,8 @@ entries-stood s (v ∷ vs) e k at h = by (entries_next s at v vs e k h) (entries
         rw (append_assoc, append_assoc, commaed-some vs some) in
         subst (λ t. Stood s at t e) same (stood-join (number-stood s at 44 v i p) (rest j i q))
 
-pub items-stood : (s : List ℕ) (at : ℕ) (vs : List ℕ) (e : ℕ) → itemsAt s at ≡ items vs e → Stood s at (joined vs ++ (10 ∷ [])) e
-unfolding itemsAt joined
+pub items-stood : (s : List ℕ) (at : ℕ) (vs : List ℕ) (e : ℕ) → items_at s at ≡ items vs e → Stood s at (joined vs ++ (10 ∷ [])) e
+unfolding items_at joined
 items-stood s at vs e h = by (eqb (get_or s at 0) 10) refl h
   where
     by : (t : Bool) → eqb (get_or s at 0) 10 ≡ t → cond t (items [] (at + 1)) (entries (length s) s at) ≡ items vs e
@@ -161,18 +161,18 @@ follows-good (again h e) g = absurd (false≢true (sym h ∙ ap good (sym e) ∙
 follows-good (faulty f h e n) g = absurd (false≢true (ap good (sym e) ∙ g))
 follows-good (stands h k p) g = (h, p)
 
-abbrev pub numberLine : List ℕ → Line → List ℕ → (ℕ → Bool) → Line
-numberLine s l key fit =
-    behind l (λ at. let a = nextNumber s (key_at s at key) 10 in closed s at a (fit (value_of a)) (pair (value_of a) 0))
+abbrev pub number_line : List ℕ → Line → List ℕ → (ℕ → Bool) → Line
+number_line s l key fit =
+    behind l (λ at. let a = next_number s (key_at s at key) 10 in closed s at a (fit (value_of a)) (pair (value_of a) 0))
 
 -- behind a line without a fault: by the key that is found, and by the number
 module _ (s : List ℕ) (key : List ℕ) (xs : Numbers) (c : Cursor) where
   abbrev Numbered : Line → Type 0
-  Numbered r = Follows s (line.Numbers xs c) (keyLine key (decimal (first_of r))) r
+  Numbered r = Follows s (line.Numbers xs c) (key_line key (decimal (first_of r))) r
 
   by_number : (fit : ℕ → Bool) (at : ℕ) → Stood s c.at key at → (a : Number) → number_at s at 10 ≡ a
       → Numbered (closed s c.at a (fit (value_of a)) (pair (value_of a) 0))
-  unfolding keyLine
+  unfolding key_line
   by_number fit at k Bad e = faulty _ refl refl refl
   by_number fit at k (Value v i) e = by (fit v)
     where
@@ -181,41 +181,41 @@ module _ (s : List ℕ) (key : List ℕ) (xs : Numbers) (c : Cursor) where
       by false = faulty _ refl refl refl
 
   by_key : (fit : ℕ → Bool) (k : Number) → key_at s c.at key ≡ k
-      → Numbered (let a = nextNumber s k 10 in closed s c.at a (fit (value_of a)) (pair (value_of a) 0))
+      → Numbered (let a = next_number s k 10 in closed s c.at a (fit (value_of a)) (pair (value_of a) 0))
   by_key fit Bad e = faulty _ refl refl refl
   by_key fit (Value v at) e = by_number fit at (key-stood s c.at key v at e) (number_at s at 10) refl
 
 module _ (s : List ℕ) (key : List ℕ) where
   pub number-follows : (l : Line) (fit : ℕ → Bool)
-      → Follows s l (keyLine key (decimal (first_of (numberLine s l key fit)))) (numberLine s l key fit)
+      → Follows s l (key_line key (decimal (first_of (number_line s l key fit)))) (number_line s l key fit)
   number-follows (line.Fault f) fit = again refl refl
   number-follows (line.Numbers xs c) fit = by_key s key xs c fit (key_at s c.at key) refl
 
   pub one_follows : (l : Line) (low bound : ℕ)
-      → Follows s l (keyLine key (decimal (first_of (lineOfOne s l key low bound)))) (lineOfOne s l key low bound)
-  unfolding lineOfOne
+      → Follows s l (key_line key (decimal (first_of (line_of_one s l key low bound)))) (line_of_one s l key low bound)
+  unfolding line_of_one
   one_follows l low bound = number-follows l (λ x. within x low bound)
 
 pub record ListFollows (s : List ℕ) (l : Line) (key : List ℕ) (bound : ℕ) (r : ListLine) : Type 0 where
-  pub follows : Follows s l (keyLine key (joined (places_of s r.list))) r.line
+  pub follows : Follows s l (key_line key (joined (places_of s r.list))) r.line
   pub whole : good r.line ≡ true → length (places_of s r.list) ≡ r.list.count
   pub fits : good r.line ≡ true → under bound (places_of s r.list) ≡ true
 
 module _ (s : List ℕ) (key : List ℕ) (bound : ℕ) where
   -- a line with a fault says nothing of a list
-  listless : (l : Line) (r : ListLine) → good r.line ≡ false → Follows s l (keyLine key (joined (places_of s r.list))) r.line
+  listless : (l : Line) (r : ListLine) → good r.line ≡ false → Follows s l (key_line key (joined (places_of s r.list))) r.line
       → ListFollows s l key bound r
   listless l r h f = record { follows = f; whole = λ g. absurd (false≢true (sym h ∙ g)); fits = λ g. absurd (false≢true (sym h ∙ g)) }
 
   -- behind a line without a fault: by the key that is found, and by the list
   module _ (xs : Numbers) (c : Cursor) where
-    by-items : (at : ℕ) → Stood s c.at key at → (i : Items) → itemsAt s at ≡ i
-        → ListFollows s (line.Numbers xs c) key bound (judgedList s c.at at i bound)
-    unfolding keyLine
+    by-items : (at : ℕ) → Stood s c.at key at → (i : Items) → items_at s at ≡ i
+        → ListFollows s (line.Numbers xs c) key bound (judged_list s c.at at i bound)
+    unfolding key_line
     by-items at k bad e = listless _ _ refl (faulty _ refl refl refl)
     by-items at k (items vs i) e = by (under bound vs) refl
       where
-        by : (t : Bool) → under bound vs ≡ t → ListFollows s (line.Numbers xs c) key bound (judgedList s c.at at (items vs i) bound)
+        by : (t : Bool) → under bound vs ≡ t → ListFollows s (line.Numbers xs c) key bound (judged_list s c.at at (items vs i) bound)
         by true u = record {
           follows = stands refl (rw u) (rw (e, u) (stood-join k (items-stood s at vs i e)));
           whole = λ g. rw e;
@@ -223,12 +223,12 @@ module _ (s : List ℕ) (key : List ℕ) (bound : ℕ) where
         }
         by false u = listless _ _ (rw u) (faulty (Range (line_at s c.at)) refl (rw u) refl)
 
-    by-list-key : (k : Number) → key_at s c.at key ≡ k → ListFollows s (line.Numbers xs c) key bound (listBehind s c.at k bound)
+    by-list-key : (k : Number) → key_at s c.at key ≡ k → ListFollows s (line.Numbers xs c) key bound (list_behind s c.at k bound)
     by-list-key Bad e = listless _ _ refl (faulty _ refl refl refl)
-    by-list-key (Value v at) e = by-items at (key-stood s c.at key v at e) (itemsAt s at) refl
+    by-list-key (Value v at) e = by-items at (key-stood s c.at key v at e) (items_at s at) refl
 
-  pub list-follows : (l : Line) → ListFollows s l key bound (listLine s l key bound)
-  unfolding listLine
+  pub list-follows : (l : Line) → ListFollows s l key bound (list_line s l key bound)
+  unfolding list_line
   list-follows (line.Fault f) = listless _ _ refl (again refl refl)
   list-follows (line.Numbers xs c) = by-list-key xs c (key_at s c.at key) refl
 
@@ -237,7 +237,7 @@ unfolding finish
 finish-good s (line.Fault f) g = absurd (false≢true g)
 finish-good s (line.Numbers xs c) g = by (ltb c.at (length s)) refl g
   where
-    by : (t : Bool) → ltb c.at (length s) ≡ t → good (cond t (badForm s c.at) (line.Numbers xs c)) ≡ true
+    by : (t : Bool) → ltb c.at (length s) ≡ t → good (cond t (bad_form s c.at) (line.Numbers xs c)) ≡ true
         → ◌≡◌ {A = Bool} true true × (length s ≤ c.at)
     by true h e = absurd (false≢true e)
     by false h e = (refl, ltb-false c.at (length s) h)
@@ -266,8 +266,8 @@ unfolding newlines joined
 newlines-joined [] = refl
 newlines-joined (v ∷ vs) = rw (newlines-append, newlines-decimal, commaed-newlines vs)
 
-pub newlines-line : (key value : List ℕ) → newlines key ≡ 0 → newlines value ≡ 0 → newlines (keyLine key value) ≡ 1
-unfolding newlines keyLine
+pub newlines-line : (key value : List ℕ) → newlines key ≡ 0 → newlines value ≡ 0 → newlines (key_line key value) ≡ 1
+unfolding newlines key_line
 newlines-line key value h k = rw (newlines-append, newlines-append, h, k)
 
 stood-newlines : {s : List ℕ} {at : ℕ} {text : List ℕ} {next : ℕ} → Stood s at text next
@@ -275,15 +275,15 @@ stood-newlines : {s : List ℕ} {at : ℕ} {text : List ℕ} {next : ℕ} → St
 stood-newlines {s} {at} {text} {next} p =
     ap (λ n. newlines (take n s)) p.place ∙ rw (take-add at (length text) s, newlines-append, p.bytes, take-append_seam)
 
-abbrev pub faultLine : Line → ℕ
-faultLine (line.Numbers xs c) = 0
-faultLine (line.Fault f) = fault.line_of f
+abbrev pub fault_line : Line → ℕ
+fault_line (line.Numbers xs c) = 0
+fault_line (line.Fault f) = fault.line_of f
 
 pub record Begun (s : List ℕ) (k : ℕ) (l : Line) : Type 0 where
   pub passed : good l ≡ true → newlines (take (next_at l) s) ≡ k
-  pub low : faultLine l ≤ k
+  pub low : fault_line l ≤ k
 
-good-line : (l : Line) → good l ≡ true → faultLine l ≡ 0
+good-line : (l : Line) → good l ≡ true → fault_line l ≡ 0
 good-line (line.Numbers xs c) g = refl
 good-line (line.Fault f) g = absurd (false≢true g)
 
@@ -299,11 +299,11 @@ begun-next b (faulty f h e m) n = rw e (record { passed = λ g. absurd (false≢
 begun-next {r = r} b (stands h g p) n =
     record { passed = λ k. omega (arith, stood-newlines p, b.passed h); low = omega (arith, good-line r g) }
 
-pub begun-finish : {s : List ℕ} {k : ℕ} {l : Line} → Begun s k l → faultLine (finish s l) ≤ k + 1
+pub begun-finish : {s : List ℕ} {k : ℕ} {l : Line} → Begun s k l → fault_line (finish s l) ≤ k + 1
 unfolding finish line_at
 begun-finish {l = line.Fault f} b = omega (arith, b.low)
 begun-finish {s} {k} {l = line.Numbers xs c} b = by (ltb c.at (length s))
   where
-    by : (t : Bool) → faultLine (cond t (badForm s c.at) (line.Numbers xs c)) ≤ k + 1
+    by : (t : Bool) → fault_line (cond t (bad_form s c.at) (line.Numbers xs c)) ≤ k + 1
     by true = omega (arith, b.passed refl)
     by false = omega arith

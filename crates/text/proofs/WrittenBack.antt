@@ -17,14 +17,14 @@ use lib.Arith.{digits_div, digits_mod}
 use lib.Dec.{ltb, eqb}
 use lib.ListN.{length, take, drop, get_or}
 use lib.Seq.{length-take-le, split_at, drop-drop}
-use Rattle.text.specs.Scan.{isDigit, canonical, digitCount, value, pick, leading, number_at}
+use Rattle.text.specs.Scan.{is_digit, canonical, digit_count, value, pick, leading, number_at}
 use Rattle.text.specs.Decimal.{decimal}
 use Rattle.text.specs.declared.read.Number.{Number}
 use Rattle.text.specs.declared.read.Number.TheVariants.{Value}
 use Rattle.text.proofs.Decimals.{decimal-small, decimal-more}
 use Rattle.text.proofs.Scans.{digit-range}
 
-digit-back : (v b : ℕ) → 0 < v → isDigit b ≡ true → decimal (v * 10 + (b - 48)) ≡ decimal v ++ (b ∷ [])
+digit-back : (v b : ℕ) → 0 < v → is_digit b ≡ true → decimal (v * 10 + (b - 48)) ≡ decimal v ++ (b ∷ [])
 digit-back v b some h =
     let r = digit-range b h in
     let low : b - 48 < 10 = omega arith in
@@ -32,14 +32,14 @@ digit-back v b some h =
     rw (decimal-more (v * 10 + (b - 48)) (omega arith), digits_div v low, digits_mod v low, same)
 
 abbrev Back : List ℕ → Type 0
-Back d = (v : ℕ) → min (digitCount d) 1 ≤ v → decimal (value v d) ≡ decimal v ++ take (digitCount d) d
+Back d = (v : ℕ) → min (digit_count d) 1 ≤ v → decimal (value v d) ≡ decimal v ++ take (digit_count d) d
 
 digits-back : (d : List ℕ) → Back d
-unfolding value digitCount
+unfolding value digit_count
 digits-back [] v some = sym (append-nil (decimal v))
-digits-back (b ∷ d) v some = by (digits-back d) (isDigit b) refl
+digits-back (b ∷ d) v some = by (digits-back d) (is_digit b) refl
   where
-    by : Back d → (t : Bool) → isDigit b ≡ t → decimal (value v (b ∷ d)) ≡ decimal v ++ take (digitCount (b ∷ d)) (b ∷ d)
+    by : Back d → (t : Bool) → is_digit b ≡ t → decimal (value v (b ∷ d)) ≡ decimal v ++ take (digit_count (b ∷ d)) (b ∷ d)
     by rest true h =
         let more : 0 < v = omega (arith, rw h at some) in
         rw (h, add-one) (rest (v * 10 + (b - 48)) (omega arith) ∙ rw (digit-back v b more h, append_assoc))
@@ -55,15 +55,15 @@ canonical-is f n c = by (eqb n 0) (eqb f 48) refl refl c
     by false true h k e = omega (arith, eqb-false n 0 h, eqb-true n 1 e)
     by false false h k e = omega (arith, eqb-false n 0 h, eqb-false f 48 k)
 
-number-back : (d : List ℕ) → canonical (get_or d 0 0) (digitCount d) ≡ true → decimal (value 0 d) ≡ take (digitCount d) d
-unfolding value digitCount
+number-back : (d : List ℕ) → canonical (get_or d 0 0) (digit_count d) ≡ true → decimal (value 0 d) ≡ take (digit_count d) d
+unfolding value digit_count
 number-back [] c = absurd (omega (arith, canonical-is 0 0 c))
-number-back (b ∷ d) c = by (isDigit b) refl
+number-back (b ∷ d) c = by (is_digit b) refl
   where
-    by : (t : Bool) → isDigit b ≡ t → decimal (value 0 (b ∷ d)) ≡ take (digitCount (b ∷ d)) (b ∷ d)
+    by : (t : Bool) → is_digit b ≡ t → decimal (value 0 (b ∷ d)) ≡ take (digit_count (b ∷ d)) (b ∷ d)
     by true h =
         let r = digit-range b h in
-        let f = (canonical-is b (digitCount d + 1) (rw h at c)).1 r.0 in
+        let f = (canonical-is b (digit_count d + 1) (rw h at c)).1 r.0 in
         let x = 0 * 10 + (b - 48) in
         let same : 48 + x ≡ b = omega arith in
         rw (h, add-one) (digits-back d x (omega arith) ∙ rw (decimal-small x (omega arith), same))
@@ -78,7 +78,7 @@ pub written_back : (s : List ℕ) (at e v i : ℕ) → number_at s at e ≡ Valu
 unfolding number_at leading
 written_back s at e v i k =
     let d = drop at s in
-    let n = digitCount d in
+    let n = digit_count d in
     let inside = pick-value (ltb n (length d)) _ v i k in
     let ended = pick-value (eqb (get_or d n 0) e) _ v i inside.1 in
     let good = pick-value (canonical (get_or d 0 0) n) _ v i ended.1 in

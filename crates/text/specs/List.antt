@@ -4,16 +4,16 @@
 --   last n                     == the list of the one number n, where it is one
 --   entry n next end           == with a number n in front: n and then what stands behind it; else `end`
 --   entries k s at             == the numbers from index `at` of s on: at most k that are each ended by a comma, and the last, ended by byte 10
---   itemsAt s at               == the list at index `at` of s: empty where the line ends at once. A text has no more commas than bytes
---   numbersIn l                == the numbers of a list, none of a bad one
+--   items_at s at               == the list at index `at` of s: empty where the line ends at once. A text has no more commas than bytes
+--   numbers_in l                == the numbers of a list, none of a bad one
 --   under bound ns             == all of them are below bound
---   noList, unlisted l         == an empty list; the line l with it
---   listLine s prior key bound == a line `key=a,b,..`, every number below bound: the line, and where its list stands and how many numbers
+--   no_list, unlisted l         == an empty list; the line l with it
+--   list_line s prior key bound == a line `key=a,b,..`, every number below bound: the line, and where its list stands and how many numbers
 --                                 it has. The line's form is judged before its ranges
 --   places_of s l               == the numbers of a list that was read
 use Rattle.std.specs.Prelude.{Bool, true, cond, ◌&&◌, List, [], ◌∷◌, ℕ, zero, suc, ◌+◌, length, get_or, ltb, eqb}
 use Rattle.text.specs.Scan.{number_at, key_at}
-use Rattle.text.specs.Line.{pair, badForm, judged}
+use Rattle.text.specs.Line.{pair, bad_form, judged}
 use Rattle.text.specs.declared.read.Number.{Number}
 use Rattle.text.specs.declared.read.Number.TheVariants.{Value, Bad}
 use Rattle.text.specs.declared.line.Line.{Line}
@@ -41,35 +41,35 @@ unfoldable pub entries : ℕ → List ℕ → ℕ → Items
 entries zero s at = last (number_at s at 10)
 entries (suc k) s at = entry (number_at s at 44) (entries k s) (last (number_at s at 10))
 
-unfoldable pub itemsAt : List ℕ → ℕ → Items
-itemsAt s at = cond (eqb (get_or s at 0) 10) (items [] (at + 1)) (entries (length s) s at)
+unfoldable pub items_at : List ℕ → ℕ → Items
+items_at s at = cond (eqb (get_or s at 0) 10) (items [] (at + 1)) (entries (length s) s at)
 
-abbrev pub numbersIn : Items → List ℕ
-numbersIn (items vs i) = vs
-numbersIn bad = []
+abbrev pub numbers_in : Items → List ℕ
+numbers_in (items vs i) = vs
+numbers_in bad = []
 
 unfoldable pub under : ℕ → List ℕ → Bool
 under bound [] = true
 under bound (v ∷ vs) = ltb v bound && under bound vs
 
-abbrev pub noList : Span
-noList = record { at = 0; count = 0 }
+abbrev pub no_list : Span
+no_list = record { at = 0; count = 0 }
 
 abbrev pub unlisted : Line → ListLine
-unlisted l = record { line = l; list = noList }
+unlisted l = record { line = l; list = no_list }
 
-abbrev pub judgedList : List ℕ → ℕ → ℕ → Items → ℕ → ListLine
-judgedList s from at (items vs next) bound =
+abbrev pub judged_list : List ℕ → ℕ → ℕ → Items → ℕ → ListLine
+judged_list s from at (items vs next) bound =
     record { line = judged s from next (under bound vs) (pair 0 0); list = record { at = at; count = length vs } }
-judgedList s from at bad bound = unlisted (badForm s from)
+judged_list s from at bad bound = unlisted (bad_form s from)
 
-abbrev pub listBehind : List ℕ → ℕ → Number → ℕ → ListLine
-listBehind s from (Value v at) bound = judgedList s from at (itemsAt s at) bound
-listBehind s from Bad bound = unlisted (badForm s from)
+abbrev pub list_behind : List ℕ → ℕ → Number → ℕ → ListLine
+list_behind s from (Value v at) bound = judged_list s from at (items_at s at) bound
+list_behind s from Bad bound = unlisted (bad_form s from)
 
-unfoldable pub listLine : List ℕ → Line → List ℕ → ℕ → ListLine
-listLine s (line.Fault f) key bound = unlisted (line.Fault f)
-listLine s (line.Numbers xs c) key bound = listBehind s c.at (key_at s c.at key) bound
+unfoldable pub list_line : List ℕ → Line → List ℕ → ℕ → ListLine
+list_line s (line.Fault f) key bound = unlisted (line.Fault f)
+list_line s (line.Numbers xs c) key bound = list_behind s c.at (key_at s c.at key) bound
 
 abbrev pub places_of : List ℕ → Span → List ℕ
-places_of s l = numbersIn (itemsAt s l.at)
+places_of s l = numbers_in (items_at s l.at)

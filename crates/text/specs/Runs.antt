@@ -1,5 +1,5 @@
 -- What the code knows of a list while it reads and writes it (no part of the format).
---   inFront vs l     == the list l with the numbers vs in front
+--   in_front vs l     == the list l with the numbers vs in front
 --   Ran s at bound r == r is what was passed of the list at index `at`: numbers that are each ended by a comma
 --   listing bound l  == of a list: how many numbers it has, whether all are below bound, and the index behind it
 --   Stands s l       == the list l was read in s, and its numbers are bytes
@@ -11,16 +11,16 @@ use Rattle.text.specs.declared.list.Listing.TheVariants as found
 use Rattle.text.specs.declared.list.Run.{Run}
 use Rattle.text.specs.declared.list.Span.{Span}
 
-abbrev pub inFront : List ℕ → Items → Items
-inFront vs (items ws i) = items (vs ++ ws) i
-inFront vs bad = bad
+abbrev pub in_front : List ℕ → Items → Items
+in_front vs (items ws i) = items (vs ++ ws) i
+in_front vs bad = bad
 
 pub record Ran (s : List ℕ) (at bound : ℕ) (r : Run) : Type 0 where
   pub numbers : List ℕ
   pub many : length numbers ≡ r.count
   pub few : r.count ≤ length s
   pub fit : r.fit ≡ under bound numbers
-  pub same : entries (length s) s at ≡ inFront numbers (last (number_at s r.next 10))
+  pub same : entries (length s) s at ≡ in_front numbers (last (number_at s r.next 10))
 
 abbrev pub listing : ℕ → Items → Listing
 listing bound (items vs i) = found.Items (record { count = length vs; fit = under bound vs; next = i })

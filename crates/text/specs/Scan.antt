@@ -1,15 +1,15 @@
 -- Keys, decimal numbers and line numbers of a text (01, "The plan file").
 --   starts_with key d   == d begins with key
---   isDigit b          == b is an ASCII digit
+--   is_digit b          == b is an ASCII digit
 --   canonical f n      == n digits, of which f is the first, are a number: there is one, and no leading zero
---   digitCount d       == how many digits d begins with
+--   digit_count d       == how many digits d begins with
 --   value v d          == what v and then those digits write in decimal, exactly, at any digit count
 --   pick t n           == n if t, and Bad if not
 --   leading d at e     == the number that d begins with, where d stands at index `at` of a text
 --   number_at s at e    == the number at index `at` of s, ended by the byte e, with the index just past e; Bad if none is there
 --   key_at s at key     == the key at index `at` of s, as a number 0, with the index just past it; Bad if it is not there
---   nextNumber s n e   == the number behind n, ended by the byte e; Bad if n is: a chain of numbers stays bad
---   elseNumber s n m e == where n is Bad, the number behind m, ended by the byte e; else Bad
+--   next_number s n e   == the number behind n, ended by the byte e; Bad if n is: a chain of numbers stays bad
+--   else_number s n m e == where n is Bad, the number behind m, ended by the byte e; else Bad
 --   either n m         == n, or where it is Bad m
 --   value_of n          == the value of a number, 0 of Bad
 --   cap n              == n with its value held at 4,000,000,000; no part of the format, it says what the code knows of a number
@@ -25,19 +25,19 @@ starts_with [] d = true
 starts_with (k ∷ ks) [] = false
 starts_with (k ∷ ks) (b ∷ d) = cond (eqb b k) (starts_with ks d) false
 
-unfoldable pub isDigit : ℕ → Bool
-isDigit b = cond (ltb b 48) false (leb b 57)
+unfoldable pub is_digit : ℕ → Bool
+is_digit b = cond (ltb b 48) false (leb b 57)
 
 unfoldable pub canonical : ℕ → ℕ → Bool
 canonical f n = cond (eqb n 0) false (cond (eqb f 48) (eqb n 1) true)
 
-unfoldable pub digitCount : List ℕ → ℕ
-digitCount [] = 0
-digitCount (b ∷ d) = cond (isDigit b) (digitCount d + 1) 0
+unfoldable pub digit_count : List ℕ → ℕ
+digit_count [] = 0
+digit_count (b ∷ d) = cond (is_digit b) (digit_count d + 1) 0
 
 unfoldable pub value : ℕ → List ℕ → ℕ
 value v [] = v
-value v (b ∷ d) = cond (isDigit b) (value (v * 10 + (b - 48)) d) v
+value v (b ∷ d) = cond (is_digit b) (value (v * 10 + (b - 48)) d) v
 
 abbrev pub pick : Bool → Number → Number
 pick true n = n
@@ -45,8 +45,8 @@ pick false n = Bad
 
 unfoldable pub leading : List ℕ → ℕ → ℕ → Number
 leading d at e =
-    pick (ltb (digitCount d) (length d))
-    (pick (eqb (get_or d (digitCount d) 0) e) (pick (canonical (get_or d 0 0) (digitCount d)) (Value (value 0 d) (at + digitCount d + 1))))
+    pick (ltb (digit_count d) (length d))
+    (pick (eqb (get_or d (digit_count d) 0) e) (pick (canonical (get_or d 0 0) (digit_count d)) (Value (value 0 d) (at + digit_count d + 1))))
 
 unfoldable pub number_at : List ℕ → ℕ → ℕ → Number
 number_at s at e = leading (drop at s) at e
@@ -54,13 +54,13 @@ number_at s at e = leading (drop at s) at e
 unfoldable pub key_at : List ℕ → ℕ → List ℕ → Number
 key_at s at key = pick (starts_with key (drop at s)) (Value 0 (at + length key))
 
-abbrev pub nextNumber : List ℕ → Number → ℕ → Number
-nextNumber s (Value v i) e = number_at s i e
-nextNumber s Bad e = Bad
+abbrev pub next_number : List ℕ → Number → ℕ → Number
+next_number s (Value v i) e = number_at s i e
+next_number s Bad e = Bad
 
-abbrev pub elseNumber : List ℕ → Number → Number → ℕ → Number
-elseNumber s (Value v i) m e = Bad
-elseNumber s Bad m e = nextNumber s m e
+abbrev pub else_number : List ℕ → Number → Number → ℕ → Number
+else_number s (Value v i) m e = Bad
+else_number s Bad m e = next_number s m e
 
 abbrev pub either : Number → Number → Number
 either (Value v i) m = Value v i

@@ -1,7 +1,7 @@
 //! A line of a text, read: its numbers with the next cursor, or its fault. A line is read behind the line before it; once a
 //! line has a fault, every later one is that fault again, so a sequence of lines has no branch.
 ghost use Rattle.std.specs.Prelude.{◌≡◌, ◌≤◌};
-ghost use Rattle.text.specs.Line.{pair, badForm, judged, within, lineOfOne, OneRead, numbersOf, top, finish};
+ghost use Rattle.text.specs.Line.{pair, bad_form, judged, within, line_of_one, OneRead, numbers_of, top, finish};
 
 use crate::fault::Fault;
 use crate::read::{Number, key_at, line_at, next_number};
@@ -43,7 +43,7 @@ pub fn pair(x: u32, y: u32) -> Numbers
 
 // The line at index `from` has a bad form.
 pub fn bad_form(s: &[u8], from: usize) -> Line
-    ensures { result ≡ badForm s.now from }
+    ensures { result ≡ bad_form s.now from }
 {
     Line::Fault(Fault::Form(line_at(s, from)))
 }
@@ -70,7 +70,7 @@ fn within(x: u32, low: u32, bound: u32) -> bool
 // A line `key=a` with a from `low` to below `bound`.
 pub fn line_of_one(s: &[u8], prior: Line, key: &[u8], low: u32, bound: u32) -> Line
     requires { bound ≤ 4000000000 }
-    ensures { OneRead (lineOfOne s.now prior key.now low bound) bound result }
+    ensures { OneRead (line_of_one s.now prior key.now low bound) bound result }
 {
     let Line::Numbers(_, cursor) = prior else {
         return prior;
@@ -85,7 +85,7 @@ pub fn line_of_one(s: &[u8], prior: Line, key: &[u8], low: u32, bound: u32) -> L
 
 // The numbers of a line, 0 of a fault.
 pub fn numbers_of(l: Line) -> Numbers
-    ensures { result ≡ numbersOf l }
+    ensures { result ≡ numbers_of l }
 {
     match l {
         Line::Numbers(xs, _) => xs,
@@ -95,7 +95,7 @@ pub fn numbers_of(l: Line) -> Numbers
 
 // The first of them.
 pub fn first_of(l: Line) -> u32
-    ensures { result ≡ (numbersOf l).first }
+    ensures { result ≡ (numbers_of l).first }
 {
     let xs = numbers_of(l);
     xs.first

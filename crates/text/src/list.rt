@@ -1,6 +1,6 @@
 //! Lists of numbers in a text, joined by commas: a line that holds one is read, and its numbers are written out as bytes.
 ghost use Rattle.std.specs.Prelude.{◌≡◌, cond, ◌&&◌, ◌++◌, ◌+◌, ◌≤◌, ◌<◌, eqb, ltb, length, drop, get_or};
-ghost use Rattle.text.specs.List.{entries, itemsAt, listLine, unlisted, places_of};
+ghost use Rattle.text.specs.List.{entries, items_at, list_line, unlisted, places_of};
 ghost use Rattle.text.specs.Runs.{Stands, Ran, listing};
 
 use crate::line::{Line, bad_form, judged, pair};
@@ -93,7 +93,7 @@ fn ends_line(s: &[u8], at: usize) -> bool
 // The list at index `at`, which may be empty.
 fn list_at(s: &[u8], at: usize, bound: u32) -> Listing
     requires { bound ≤ 4000000000 }
-    ensures { result ≡ listing bound (itemsAt s.now at) }
+    ensures { result ≡ listing bound (items_at s.now at) }
 {
     if ends_line(s, at) {
         return Listing::Items(Run {
@@ -115,7 +115,7 @@ fn no_list(line: Line) -> ListLine
 // A line `key=a,b,..`, every number below `bound`.
 pub fn list_line(s: &[u8], prior: Line, key: &[u8], bound: u32) -> ListLine
     requires { bound ≤ 4000000000 }
-    ensures { result ≡ listLine s.now prior key.now bound }
+    ensures { result ≡ list_line s.now prior key.now bound }
 {
     let Line::Numbers(_, cursor) = prior else {
         return no_list(prior);

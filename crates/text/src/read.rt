@@ -1,6 +1,6 @@
 //! Readers of a text: keys, decimal numbers and line numbers.
 ghost use Rattle.std.specs.Prelude.{◌≡◌, ◌+◌, ◌-◌, ◌*◌, ◌≤◌, ◌<◌, min};
-ghost use Rattle.text.specs.Scan.{isDigit, canonical, key_at, number_at, nextNumber, elseNumber, either, value_of, cap, newline, line_at};
+ghost use Rattle.text.specs.Scan.{is_digit, canonical, key_at, number_at, next_number, else_number, either, value_of, cap, newline, line_at};
 
 // A number with the index just past it, or no number of good form there.
 #[derive(Drop)]
@@ -33,7 +33,7 @@ pub fn key_at(s: &[u8], at: usize, key: &[u8]) -> Number
 }
 
 fn digit(b: u8) -> bool
-    ensures { result ≡ isDigit b }
+    ensures { result ≡ is_digit b }
 {
     if b < b'0' {
         return false;
@@ -105,7 +105,7 @@ pub fn number_at(s: &[u8], at: usize, end: u8) -> Number
 
 // The number behind n, ended by the byte `end`. A chain of numbers stays bad.
 pub fn next_number(s: &[u8], n: Number, end: u8) -> Number
-    ensures { result ≡ cap (nextNumber s.now n end) }
+    ensures { result ≡ cap (next_number s.now n end) }
 {
     match n {
         Number::Value(_, at) => number_at(s, at, end),
@@ -115,7 +115,7 @@ pub fn next_number(s: &[u8], n: Number, end: u8) -> Number
 
 // Where n is no number, the number behind m, ended by the byte `end`.
 pub fn else_number(s: &[u8], n: Number, m: Number, end: u8) -> Number
-    ensures { result ≡ cap (elseNumber s.now n m end) }
+    ensures { result ≡ cap (else_number s.now n m end) }
 {
     match n {
         Number::Value(_, _) => Number::Bad,

@@ -3,7 +3,7 @@
 ghost use Rattle.std.specs.Prelude.{◌≡◌, [], ◌∷◌, ◌+◌, ◌≤◌, ◌<◌, length};
 ghost use Rattle.text.specs.Over.{Wrote};
 ghost use Rattle.text.specs.Decimal.{decimal};
-ghost use Rattle.text.specs.KeyLine.{commaed, joined, keyLine};
+ghost use Rattle.text.specs.KeyLine.{commaed, joined, key_line};
 
 pub fn put_byte(out: &mut [u8], at: usize, byte: u8) -> usize
     requires { at < length out.old }
@@ -80,8 +80,8 @@ pub fn put_joined(out: &mut [u8], at: usize, numbers: &[u8]) -> usize
 
 // A line `key=x`; the key has its equals sign.
 pub fn put_number_line(out: &mut [u8], at: usize, key: &[u8], x: u32) -> usize
-    requires { at + length (keyLine key.now (decimal x)) ≤ length out.old }
-    ensures { Wrote out.old at (keyLine key.now (decimal x)) out.new result }
+    requires { at + length (key_line key.now (decimal x)) ≤ length out.old }
+    ensures { Wrote out.old at (key_line key.now (decimal x)) out.new result }
 {
     let value = put_bytes(out, at, key);
     let end = put_decimal(out, value, x);
@@ -90,8 +90,8 @@ pub fn put_number_line(out: &mut [u8], at: usize, key: &[u8], x: u32) -> usize
 
 // A line `key=a,b,..`.
 pub fn put_list_line(out: &mut [u8], at: usize, key: &[u8], numbers: &[u8]) -> usize
-    requires { at + length (keyLine key.now (joined numbers.now)) ≤ length out.old }
-    ensures { Wrote out.old at (keyLine key.now (joined numbers.now)) out.new result }
+    requires { at + length (key_line key.now (joined numbers.now)) ≤ length out.old }
+    ensures { Wrote out.old at (key_line key.now (joined numbers.now)) out.new result }
 {
     let value = put_bytes(out, at, key);
     let end = put_joined(out, value, numbers);

@@ -6,24 +6,24 @@ use borrow.Author.Rules.{rules}
 use lib.ListN.{length}
 use Rattle.text.specs.Decimal.{decimal}
 use Rattle.text.specs.Over.{Wrote, Left}
-use Rattle.text.specs.KeyLine.{keyLine}
-use Rattle.answer.specs.Text.{answerKey, line_key, costKey, keptKey, figures}
+use Rattle.text.specs.KeyLine.{key_line}
+use Rattle.answer.specs.Text.{answer_key, line_key, cost_key, kept_key, figures}
 use Rattle.answer.specs.declared.Answer.{Answer}
 use Rattle.text.proofs.Overs.{left-start, left-room, left-next, left-last}
 use Rattle.answer.proofs.put_figures.Statement.{statement}
 use Rattle.answer.proofs.put_figures.Tie as tie
 
 abbrev number : Answer → List ℕ
-number a = keyLine answerKey (decimal a.number)
+number a = key_line answer_key (decimal a.number)
 
 abbrev line : Answer → List ℕ
-line a = keyLine line_key (decimal a.line)
+line a = key_line line_key (decimal a.line)
 
 abbrev cost : Answer → List ℕ
-cost a = keyLine costKey (decimal a.cost)
+cost a = key_line cost_key (decimal a.cost)
 
 abbrev kept : Answer → List ℕ
-kept a = keyLine keptKey (decimal a.kept)
+kept a = key_line kept_key (decimal a.kept)
 
 module _ (a : Answer) (b : List ℕ) (room : length (figures a) ≤ length b) where
   from-number : Left b 0 (figures a) b 0 (number a ++ (line a ++ (cost a ++ kept a)))

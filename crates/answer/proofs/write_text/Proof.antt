@@ -4,8 +4,8 @@ use Prim.Native.Nat.{◌+◌, ◌≤◌}
 use native.Mathlib.Omega.{arith}
 use borrow.Author.Rules.{rules}
 use lib.ListN.{length}
-use Rattle.text.specs.KeyLine.{joined, keyLine}
-use Rattle.answer.specs.Text.{runinKey, loopKey, figures, text_of}
+use Rattle.text.specs.KeyLine.{joined, key_line}
+use Rattle.answer.specs.Text.{runin_key, loop_key, figures, text_of}
 use Rattle.text.proofs.Overs.{second-room, third-room, wrote-three, wrote-front}
 use Rattle.answer.proofs.Texts.{figures-length, text-length}
 use Rattle.answer.proofs.write_text.Statement.{statement}
@@ -47,14 +47,14 @@ put-list-line-requires : tie.Need-put-list-line-requires
 unfolding text_of
 put-list-line-requires c κs =
     let f = figured c in let k = f.before.before in let a = (start k).args in
-    second-room (figures a.a) (keyLine runinKey (joined a.runin.now)) (keyLine loopKey (joined a.cycle.now)) (room k)
+    second-room (figures a.a) (key_line runin_key (joined a.runin.now)) (key_line loop_key (joined a.cycle.now)) (room k)
     f.put-figures.ensures
 
 put-list-line-requires-2 : tie.Need-put-list-line-requires-2
 unfolding text_of
 put-list-line-requires-2 c κs =
     let l = listed c in let f = figured l.before in let k = f.before.before in let a = (start k).args in
-    third-room (figures a.a) (keyLine runinKey (joined a.runin.now)) (keyLine loopKey (joined a.cycle.now)) (room k)
+    third-room (figures a.a) (key_line runin_key (joined a.runin.now)) (key_line loop_key (joined a.cycle.now)) (room k)
     f.put-figures.ensures
     l.put-list-line.ensures
 
@@ -64,7 +64,7 @@ returns c =
     let e = c.before.before in let l = listed e.before in let f = figured l.before in let k = f.before.before in
     let a = (start k).args in
     wrote-front
-    (wrote-three (figures a.a) (keyLine runinKey (joined a.runin.now)) (keyLine loopKey (joined a.cycle.now)) (room k)
+    (wrote-three (figures a.a) (key_line runin_key (joined a.runin.now)) (key_line loop_key (joined a.cycle.now)) (room k)
     f.put-figures.ensures
     l.put-list-line.ensures
     e.put-list-line2.ensures)

@@ -1,7 +1,7 @@
 -- `check_plan` meets its contract: too large a product, a tour that breaks, and one that does not.
 use mathlib.Core.Path.{sym, ◌∙◌}
 use borrow.Author.Rules.{rules}
-use Rattle.checker.specs.Break.{firstBreak}
+use Rattle.checker.specs.Break.{first_break}
 use Rattle.checker.proofs.Worths.{whole-places}
 use Rattle.checker.proofs.Rulings.{told-whole, ruled-large, ruled-broken, ruled-whole}
 use Rattle.checker.proofs.check_plan.Statement.{statement}
@@ -22,7 +22,7 @@ appraise-requires c κs =
     let f = c.before.before in
     let s = start (small f).before in
     let a = s.args in
-    (s.pre, whole-places a.p s.pre a.stem.now a.cycle.now (told-whole (firstBreak a.p a.stem.now a.cycle.now) (sym c.enum_told.given.1 ∙ f.first-break.ensures)))
+    (s.pre, whole-places a.p s.pre a.stem.now a.cycle.now (told-whole (first_break a.p a.stem.now a.cycle.now) (sym c.enum_told.given.1 ∙ f.first-break.ensures)))
 
 returns-2 : tie.Need-returns-2
 returns-2 c =

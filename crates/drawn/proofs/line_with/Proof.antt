@@ -5,7 +5,7 @@ use mathlib.Core.List.{List}
 use Prim.Native.Nat.{ℕ, ◌-◌, ◌≤◌}
 use native.Mathlib.Omega.{arith}
 use lib.ListN.{length, drop}
-use Rattle.drawn.specs.Drawing.{lineWith}
+use Rattle.drawn.specs.Drawing.{line_with}
 use Rattle.drawn.proofs.Seeking.{with-here, with-on, with-past}
 use borrow.Author.Rules.{rules}
 use Rattle.drawn.proofs.line_with.Statement.{statement}
@@ -14,7 +14,7 @@ use Rattle.drawn.proofs.line_with.Tie as tie
 record Sought (s key : List ℕ) (fresh : Bool) (i : ℕ) : Type 0 where
   pub within : i ≤ length s
   -- what is left to search decides
-  pub same : lineWith key true 0 s ≡ lineWith key fresh i (drop i s)
+  pub same : line_with key true 0 s ≡ line_with key fresh i (drop i s)
 
 abbrev invariant-loop : tie.invariant-loop
 invariant-loop s key fresh₀ i₀ fresh i = Sought s key fresh i

@@ -1,13 +1,13 @@
 -- `key_of` meets its contract: the key is made of the two sums.
 use mathlib.Core.Path.{ap₂}
 use Prim.Native.Nat.{◌+◌, ◌*◌}
-use Rattle.plan.specs.Key.{keyOf}
+use Rattle.plan.specs.Key.{key_of}
 use borrow.Author.Rules.{rules}
 use Rattle.plan.proofs.key_of.Statement.{statement}
 use Rattle.plan.proofs.key_of.Tie as tie
 
 returns : tie.Need-returns
-unfolding keyOf
+unfolding key_of
 returns c = ap₂ (λ x y. x * 256 + y) c.before.cost-of.ensures.0 c.tie-of.ensures.0
 
 pub key-of-spec : {M : Type 1} → statement M

@@ -4,7 +4,7 @@ use Prim.Native.Nat.{◌+◌, ◌≤◌}
 use native.Mathlib.Omega.{arith}
 use native.Mathlib.Nat.{mul-le-mul_right}
 use Rattle.plan.proofs.Products.{sized-small, sized-nodes}
-use Rattle.promise.proofs.Verdicts.{too_large, short-runin, short-loop, roomy-planned}
+use Rattle.promise.proofs.Verdicts.{too-large, short-runin, short-loop, roomy-planned}
 use borrow.Author.Rules.{rules}
 use Rattle.planner.proofs.plan_answer.Statement.{statement}
 use Rattle.planner.proofs.plan_answer.Tie as tie
@@ -19,7 +19,7 @@ small c = c.before.before
 returns : tie.Need-returns
 returns c =
     let h = c.before.before in let a = (start h).args in
-    too_large a.p h.type_size.ensures a.runin.now a.cycle.now _ c.before.if1.true c.refusal-answer.ensures
+    too-large a.p h.type_size.ensures a.runin.now a.cycle.now _ c.before.if1.true c.refusal-answer.ensures
 
 returns-2 : tie.Need-returns-2
 returns-2 c =

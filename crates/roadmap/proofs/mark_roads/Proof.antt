@@ -6,13 +6,13 @@ use borrow.Author.Rules.{rules}
 use lib.ListN.{length, get_or}
 use Rattle.base.specs.Marks.{marks}
 use Rattle.base.proofs.Marks.{marks-length, mark-next}
-use Rattle.roadmap.specs.Chart.{roadCell}
+use Rattle.roadmap.specs.Chart.{road_cell}
 use Rattle.roadmap.proofs.mark_roads.Statement.{statement}
 use Rattle.roadmap.proofs.mark_roads.Tie as tie
 
 abbrev invariant-loop : tie.invariant-loop
 invariant-loop from to count at table₀ exits₀ i₀ table exits i =
-    (table ≡ marks (roadCell from to at) i table₀) × (exits ≡ marks (λ k. get_or from k 0) i exits₀) × (i ≤ count)
+    (table ≡ marks (road_cell from to at) i table₀) × (exits ≡ marks (λ k. get_or from k 0) i exits₀) × (i ≤ count)
     × (length table ≡ length table₀) × (length exits ≡ length exits₀)
 
 abbrev decreases-loop : tie.decreases-loop
@@ -38,7 +38,7 @@ loop-again c =
     let at = (turn c).before in
     let a = (entered at).args in
     let l = at.loop in
-    let cell = roadCell a.from.now a.to.now a.at in
+    let cell = road_cell a.from.now a.to.now a.at in
     let left : ℕ → ℕ = λ k. get_or a.from.now k 0 in
     let next = mark-next cell l.i a.table.now l.table _ _ l.inv.0 refl refl in
     let out = mark-next left l.i a.exits.now l.exits _ _ l.inv.1 refl refl in

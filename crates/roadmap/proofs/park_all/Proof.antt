@@ -6,13 +6,13 @@ use borrow.Author.Rules.{rules}
 use lib.ListN.{length}
 use Rattle.base.specs.Marks.{marks}
 use Rattle.base.proofs.Marks.{marks-length, mark-next}
-use Rattle.roadmap.specs.Chart.{parkCell, noExit}
+use Rattle.roadmap.specs.Chart.{park_cell, no_exit}
 use Rattle.roadmap.proofs.park_all.Statement.{statement}
 use Rattle.roadmap.proofs.park_all.Tie as tie
 
 abbrev invariant-loop : tie.invariant-loop
 invariant-loop exits places at table₀ u₀ table u =
-    (table ≡ marks (parkCell (noExit exits) at (length table₀)) u table₀) × (u ≤ places) × (length table ≡ length table₀)
+    (table ≡ marks (park_cell (no_exit exits) at (length table₀)) u table₀) × (u ≤ places) × (length table ≡ length table₀)
 
 abbrev decreases-loop : tie.decreases-loop
 decreases-loop exits places at table₀ u₀ table u = places - u
@@ -34,7 +34,7 @@ loop-again c =
     let a = (entered at).args in
     let l = at.loop in
     let same : length l.table ≡ length a.table.now = l.inv.2 in
-    let cell = parkCell (noExit a.exits.now) a.at (length a.table.now) in
+    let cell = park_cell (no_exit a.exits.now) a.at (length a.table.now) in
     let next = mark-next cell l.u a.table.now l.table _ _ l.inv.0 refl (q.park.ensures ∙ rw same refl) in
     (next, omega arith, ap length next ∙ marks-length cell _ a.table.now)
 

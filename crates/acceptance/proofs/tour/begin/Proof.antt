@@ -6,8 +6,8 @@ use native.Mathlib.Omega.{arith}
 use borrow.Author.Rules.{rules}
 use lib.ListN.{length}
 use lib.ListN.{length-set}
-use Rattle.base.specs.Bits.{hasBit}
-use Rattle.acceptance.specs.Table.{stepIn, Marked, Turned}
+use Rattle.base.specs.Bits.{has_bit}
+use Rattle.acceptance.specs.Table.{step_in, Marked, Turned}
 use Rattle.acceptance.proofs.Words.{word_none, turned_none, turned-put}
 use Rattle.acceptance.proofs.tour.begin.Statement.{statement}
 use Rattle.acceptance.proofs.tour.begin.Tie as tie
@@ -27,7 +27,7 @@ loop-again c =
     let at = o.before.before in
     let a = at.before.before.args in
     let l = at.loop in
-    let x = word_none (stepIn a.steps.now) a.n (hasBit a.accept) l.q o.one.result c.marked.result (omega arith) o.one.ensures.0
+    let x = word_none (step_in a.steps.now) a.n (has_bit a.accept) l.q o.one.result c.marked.result (omega arith) o.one.ensures.0
     (subst (λ b. Marked o.one.result b c.marked.result) c.before.has.ensures c.marked.ensures) in (
       turned-put a.steps.now a.n a.accept [] l.rows l.q c.marked.result l.invariant.0 (omega (arith, l.invariant.3)) x,
       omega arith,

@@ -4,7 +4,7 @@ use Prim.Native.Nat.{◌/◌, ◌^◌}
 use mathlib.Core.Bool.{◌&&◌}
 use borrow.Author.Rules.{rules}
 use lib.ListN.{get_or}
-use Rattle.base.specs.Bits.{hasBit}
+use Rattle.base.specs.Bits.{has_bit}
 use Rattle.acceptance.specs.Table.{gathered, returning}
 use Rattle.acceptance.proofs.tour.comes_back.Statement.{statement}
 use Rattle.acceptance.proofs.tour.comes_back.Tie as tie
@@ -15,7 +15,7 @@ returns c =
     let g = c.before in
     let h = g.before.before.before.before in
     let a = h.before.before.args in
-    let back : hasBit g.gather.result a.s ≡ gathered a.links.now 0 (get_or a.rows.now a.s 0 / 2 ^ 32) a.s =
+    let back : has_bit g.gather.result a.s ≡ gathered a.links.now 0 (get_or a.rows.now a.s 0 / 2 ^ 32) a.s =
     g.gather.ensures.has a.s ∙ ap (λ u. gathered a.links.now 0 u a.s) g.before.upper.ensures.0 in
     c.has2.ensures ∙ back
     ∙ ap (λ b. b && gathered a.links.now 0 (get_or a.rows.now a.s 0 / 2 ^ 32) a.s) (sym (sym h.has.ensures ∙ g.before.before.before.if1.true))

@@ -4,20 +4,20 @@ use mathlib.Core.Bool.{false}
 use Prim.Native.Nat.{◌-◌, ◌≤◌}
 use native.Mathlib.Omega.{arith}
 use borrow.Author.Rules.{rules}
-use Rattle.base.specs.Below.{anyBelow}
+use Rattle.base.specs.Below.{any_below}
 use Rattle.acceptance.specs.Table.{returning}
 use Rattle.base.proofs.Tests.{any-intro, any-suc}
 use Rattle.acceptance.proofs.tour.some_comes_back.Statement.{statement}
 use Rattle.acceptance.proofs.tour.some_comes_back.Tie as tie
 
 abbrev invariant-loop : tie.invariant-loop
-invariant-loop n rows links set s₀ s = (anyBelow s (returning rows links set) ≡ false) × (s ≤ n)
+invariant-loop n rows links set s₀ s = (any_below s (returning rows links set) ≡ false) × (s ≤ n)
 
 abbrev decreases-loop : tie.decreases-loop
 decreases-loop n rows links set s₀ s = n - s
 
 loop-holds : tie.Need-loop-init invariant-loop decreases-loop
-unfolding anyBelow
+unfolding any_below
 loop-holds c = (refl, omega arith)
 
 returns : tie.Need-returns invariant-loop decreases-loop
@@ -38,7 +38,7 @@ returns-2 : tie.Need-returns-2 invariant-loop decreases-loop
 returns-2 c =
     let at = c.before in
     let a = at.before.before.args in
-    sym (ap (λ s. anyBelow s (returning a.rows.now a.links.now a.set)) (omega (arith, at.loop.invariant.1)) ∙ at.loop.invariant.0)
+    sym (ap (λ s. any_below s (returning a.rows.now a.links.now a.set)) (omega (arith, at.loop.invariant.1)) ∙ at.loop.invariant.0)
 
 pub some-comes-back-spec : {M : Type 1} → statement M
 some-comes-back-spec = tie.close (tie.spec invariant-loop decreases-loop loop-holds (λ c κs. search rules) returns (λ c. search rules) (λ c. search rules) loop-again returns-2)

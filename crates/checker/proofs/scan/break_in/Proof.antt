@@ -9,7 +9,7 @@ use borrow.Author.Rules.{rules}
 use borrow.Author.Tests.{not-true, not-false}
 use lib.ListN.{length}
 use Rattle.automata.specs.WellFormed.{Below}
-use Rattle.checker.specs.Drive.{before, allowed, priorOf, Stopped}
+use Rattle.checker.specs.Drive.{before, allowed, prior_of, Stopped}
 use Rattle.checker.specs.Passing.{closing}
 use Rattle.checker.proofs.Drives.{break-in-stem, break-no-loop, break-in-loop, break-closing, break-none}
 use Rattle.checker.proofs.Scans.{whole_below, prior-small, charted-stopped, charted-closing, told_at, told-nowhere}
@@ -33,7 +33,7 @@ stem-stops : (c : tie.After-driven) → Stopped (allowed (entered c).args.p) bef
 stem-stops c = charted-stopped (entered c).requires.1 c.driven.ensures
 
 -- the loop is entered from a row of the table
-loop-entry : (c : tie.After-before-loop) → let a = (entered (whole-stem c)).args in priorOf before a.stem.now (length a.stem.now) ≤ 128
+loop-entry : (c : tie.After-before-loop) → let a = (entered (whole-stem c)).args in prior_of before a.stem.now (length a.stem.now) ≤ 128
 loop-entry c =
     let d = whole-stem c in
     let s = entered d in
@@ -43,7 +43,7 @@ loop-entry c =
 
 -- where the drive along the loop stops, which is entered from the run-in's last place
 loop-stops : (c : tie.After-driven2) → let a = (entered (whole-stem c.before)).args in
-    Stopped (allowed a.p) (priorOf before a.stem.now (length a.stem.now)) a.cycle.now c.driven2.result
+    Stopped (allowed a.p) (prior_of before a.stem.now (length a.stem.now)) a.cycle.now c.driven2.result
 loop-stops c = charted-stopped (entered (whole-stem c.before)).requires.1 (rw c.before.before-loop.ensures at c.driven2.ensures)
 
 -- the places of a loop that is driven whole

@@ -3,14 +3,14 @@ use Prim.Native.Nat.{◌-◌, ◌≤◌}
 use native.Mathlib.Omega.{arith}
 use borrow.Author.Rules.{rules}
 use lib.ListN.{length, get_or}
-use Rattle.checker.specs.Drive.{onTable, Driving}
+use Rattle.checker.specs.Drive.{on_table, Driving}
 use Rattle.checker.proofs.Drives.{driving-start, driving-step, driving-stop, driving-end}
 use Rattle.checker.proofs.Scans.{table-past, table-shut, table-leads}
 use Rattle.checker.proofs.scan.driven.Statement.{statement}
 use Rattle.checker.proofs.scan.driven.Tie as tie
 
 abbrev invariant-loop : tie.invariant-loop
-invariant-loop roads places from list u₀ i₀ u i = Driving (onTable roads places) from list u i × (u ≤ 128)
+invariant-loop roads places from list u₀ i₀ u i = Driving (on_table roads places) from list u i × (u ≤ 128)
 
 abbrev decreases-loop : tie.decreases-loop
 decreases-loop roads places from list u₀ i₀ u i = length list - i
@@ -25,7 +25,7 @@ abbrev known : tie.After-shared-slice-known2 invariant-loop decreases-loop → t
 known c = c.before
 
 loop-holds : tie.Need-loop-init invariant-loop decreases-loop
-loop-holds c = let a = c.args in (driving-start (onTable a.roads.now a.places) a.from a.list.now, c.requires.2)
+loop-holds c = let a = c.args in (driving-start (on_table a.roads.now a.places) a.from a.list.now, c.requires.2)
 
 cast-v : tie.Need-overflow-cast-v invariant-loop decreases-loop
 cast-v c = omega (arith, c.shared-slice-known.given (turn c).loop.i)

@@ -4,9 +4,9 @@ use mathlib.Core.List.{List}
 use Prim.Native.Nat.{ℕ, ◌+◌, ◌-◌, ◌*◌, ◌≤◌, min}
 use native.Mathlib.Omega.{arith}
 use lib.ListN.{get_or}
-use Rattle.base.specs.Below.{productBelow}
+use Rattle.base.specs.Below.{product_below}
 use Rattle.automata.specs.declared.Automaton.{Automaton}
-use Rattle.automata.specs.WellFormed.{noAutomaton}
+use Rattle.automata.specs.WellFormed.{no_automaton}
 use Rattle.plan.specs.WellFormed.{soft}
 use Rattle.plan.proofs.Products.{product-none, product-more, size-whole, states-default}
 use borrow.Author.Rules.{rules}
@@ -17,7 +17,7 @@ record Grown (rules n₀ : ℕ) (soft : List Automaton) (n i : ℕ) : Type 0 whe
   pub within : i ≤ rules
   pub room : rules ≤ 8
   pub small : n ≤ 2049
-  pub held : n ≡ min (n₀ * productBelow i (λ k. (get_or soft k noAutomaton).states + 1)) 2049
+  pub held : n ≡ min (n₀ * product_below i (λ k. (get_or soft k no_automaton).states + 1)) 2049
 
 abbrev invariant-loop : tie.invariant-loop
 invariant-loop rules n₀ soft i₀ n i = Grown rules n₀ soft n i
@@ -44,7 +44,7 @@ loop-again c =
       room = l.invariant.room;
       small = c.grown3.ensures.1;
       held = product-more 2049 _ _ _ _ _ _ l.invariant.held
-          (ap (λ (q : ℕ). q + 1) (c.before.wide3.ensures.0 ∙ states-default p.soft l.i _ noAutomaton refl)) c.grown3.ensures.0;
+          (ap (λ (q : ℕ). q + 1) (c.before.wide3.ensures.0 ∙ states-default p.soft l.i _ no_automaton refl)) c.grown3.ensures.0;
     }
 
 returns : tie.Need-returns invariant-loop decreases-loop
@@ -57,7 +57,7 @@ returns c =
     size-whole 2049 p places.grown.result hard.grown2.result l.n
     (places.grown.ensures.0 ∙ ap (λ (x : ℕ). min (1 * x) 2049) places.before.wide.ensures.0)
     (hard.grown2.ensures.0 ∙ ap (λ (x : ℕ). min (places.grown.result * x) 2049) hard.before.wide2.ensures.0)
-    (l.invariant.held ∙ ap (λ (k : ℕ). min (hard.grown2.result * productBelow k (λ i. (soft p i).states + 1)) 2049) e)
+    (l.invariant.held ∙ ap (λ (k : ℕ). min (hard.grown2.result * product_below k (λ i. (soft p i).states + 1)) 2049) e)
 
 pub held-size-spec : {M : Type 1} → statement M
 held-size-spec =

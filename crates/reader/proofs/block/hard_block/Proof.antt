@@ -1,11 +1,11 @@
 -- `hard_block` meets its contract: its lines in order make up the block.
-use Rattle.reader.specs.Blocks.{hardBlock}
+use Rattle.reader.specs.Blocks.{hard_block}
 use borrow.Author.Rules.{rules}
 use Rattle.reader.proofs.block.hard_block.Statement.{statement}
 use Rattle.reader.proofs.block.hard_block.Tie as tie
 
 returns : tie.Need-returns
-unfolding hardBlock
+unfolding hard_block
 returns c = rw (c.automaton-block.ensures, c.before.first_of.ensures, c.before.before.line-of-one.ensures.same)
 
 pub hard-block-spec : {M : Type 1} → statement M

@@ -3,10 +3,10 @@ use mathlib.Core.Path.{◌≡◌}
 use mathlib.Core.List.{List}
 use Prim.Native.Nat.{ℕ, ◌-◌, ◌≤◌}
 use native.Mathlib.Omega.{arith}
-use Rattle.reader.specs.Blocks.{labelStep, labelBlock}
+use Rattle.reader.specs.Blocks.{label_step, label_block}
 use Rattle.text.specs.declared.line.Line.{Line}
 use Rattle.reader.proofs.Filling.{rest, rest-step, rest_end}
-use Rattle.reader.proofs.Steps.{labelsIn, labels-start, label-step}
+use Rattle.reader.proofs.Steps.{labels_in, labels-start, label-step}
 use borrow.Author.Rules.{rules}
 use Rattle.reader.proofs.block.label_block.Statement.{statement}
 use Rattle.reader.proofs.block.label_block.Tie as tie
@@ -15,7 +15,7 @@ record Read (s : List ℕ) (n bound : ℕ) (prior line : Line) (labels : List �
   pub within : i ≤ n
   pub room : n ≤ 128
   pub bytes : bound ≤ 256
-  pub same : labelBlock s prior n bound ≡ rest n (labelStep s bound) i (labelsIn line labels)
+  pub same : label_block s prior n bound ≡ rest n (label_step s bound) i (labels_in line labels)
 
 abbrev invariant-loop : tie.invariant-loop
 invariant-loop s n bound line₀ labels₀ i₀ t8 line labels i = Read s n bound line₀ line labels i

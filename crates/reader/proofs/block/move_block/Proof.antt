@@ -3,11 +3,11 @@ use mathlib.Core.Path.{◌≡◌}
 use mathlib.Core.List.{List}
 use Prim.Native.Nat.{ℕ, ◌-◌, ◌≤◌}
 use native.Mathlib.Omega.{arith}
-use Rattle.reader.specs.Blocks.{moveStep, moveBlock}
+use Rattle.reader.specs.Blocks.{move_step, move_block}
 use Rattle.text.specs.declared.line.Line.{Line}
 use Rattle.reader.proofs.Lines.{byte}
 use Rattle.reader.proofs.Filling.{rest, rest-step, rest_end}
-use Rattle.reader.proofs.Steps.{movesIn, moves-start, move_step}
+use Rattle.reader.proofs.Steps.{moves_in, moves-start, move-step}
 use borrow.Author.Rules.{rules}
 use Rattle.reader.proofs.block.move_block.Statement.{statement}
 use Rattle.reader.proofs.block.move_block.Tie as tie
@@ -17,7 +17,7 @@ record Read (s : List ℕ) (n states labels : ℕ) (prior line : Line) (from nee
   pub room : n ≤ 64
   pub state-bytes : states ≤ 256
   pub label-bytes : labels ≤ 256
-  pub same : moveBlock s prior n states labels ≡ rest n (moveStep s states labels) i (movesIn line from need bar any to)
+  pub same : move_block s prior n states labels ≡ rest n (move_step s states labels) i (moves_in line from need bar any to)
 
 abbrev invariant-loop : tie.invariant-loop
 invariant-loop s n states labels line₀ from₀ need₀ bar₀ any₀ to₀ i₀ t14 line from need bar any to i = Read s n states labels line₀ line from need bar any to i
@@ -69,7 +69,7 @@ loop-again c =
       state-bytes = l.inv.state-bytes;
       label-bytes = l.inv.label-bytes;
       same = rest-step _ _ _ _ _ l.inv.same (turn n).loop-test.true _
-          (move_step _ _ _ _ _ _ l.from l.need l.bar l.any l.to _ (read n).move-line.ensures.same n.Numbers-of.ensures);
+          (move-step _ _ _ _ _ _ l.from l.need l.bar l.any l.to _ (read n).move-line.ensures.same n.Numbers-of.ensures);
     }
 
 returns : tie.Need-returns invariant-loop decreases-loop

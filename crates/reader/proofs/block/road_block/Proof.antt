@@ -9,10 +9,10 @@ use lib.ListN.{length, replicate}
 use Rattle.text.specs.Line.{good}
 use Rattle.text.specs.declared.line.Line.{Line}
 use Rattle.reader.specs.Pairs.{Noted}
-use Rattle.reader.specs.Blocks.{earlier, roadStep, roadBlock}
+use Rattle.reader.specs.Blocks.{earlier, road_step, road_block}
 use Rattle.reader.proofs.Lines.{byte}
 use Rattle.reader.proofs.Filling.{rest, rest-step, rest_end}
-use Rattle.reader.proofs.Steps.{roadsIn, roads-start, road-step}
+use Rattle.reader.proofs.Steps.{roads_in, roads-start, road-step}
 use Rattle.reader.proofs.Noting.{noted-start, noted-after, road-by}
 use borrow.Author.Rules.{rules}
 use Rattle.reader.proofs.block.road_block.Statement.{statement}
@@ -25,8 +25,8 @@ record Read (s : List ℕ) (n bound : ℕ) (prior line : Line) (from to pairs : 
   pub from-room : length from ≡ 1024
   pub to_room : length to ≡ 1024
   pub pairs-room : length pairs ≡ 512
-  pub noted : good line ≡ true → Noted pairs (earlier (roadsIn line from to) i)
-  pub same : roadBlock s prior n bound ≡ rest n (roadStep s bound) i (roadsIn line from to)
+  pub noted : good line ≡ true → Noted pairs (earlier (roads_in line from to) i)
+  pub same : road_block s prior n bound ≡ rest n (road_step s bound) i (roads_in line from to)
 
 abbrev invariant-loop : tie.invariant-loop
 invariant-loop s n bound line₀ from₀ to₀ pairs₀ i₀ t11 line from to pairs i = Read s n bound line₀ line from to pairs i

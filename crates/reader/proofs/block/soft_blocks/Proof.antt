@@ -4,10 +4,10 @@ use mathlib.Core.List.{List}
 use Prim.Native.Nat.{ℕ, ◌-◌, ◌≤◌}
 use native.Mathlib.Omega.{arith}
 use Rattle.automata.specs.declared.Automaton.{Automaton}
-use Rattle.reader.specs.Blocks.{softStep, softBlocks}
+use Rattle.reader.specs.Blocks.{soft_step, soft_blocks}
 use Rattle.text.specs.declared.line.Line.{Line}
 use Rattle.reader.proofs.Filling.{rest, rest-step, rest_end}
-use Rattle.reader.proofs.Steps.{softsIn, softs-start, soft-step}
+use Rattle.reader.proofs.Steps.{softs_in, softs-start, soft-step}
 use borrow.Author.Rules.{rules}
 use Rattle.reader.proofs.block.soft_blocks.Statement.{statement}
 use Rattle.reader.proofs.block.soft_blocks.Tie as tie
@@ -16,7 +16,7 @@ record Read (s : List ℕ) (n labels : ℕ) (prior line : Line) (soft : List Aut
   pub within : i ≤ n
   pub room : n ≤ 8
   pub bytes : labels ≤ 256
-  pub same : softBlocks s prior n labels ≡ rest n (softStep s labels) i (softsIn line soft weights)
+  pub same : soft_blocks s prior n labels ≡ rest n (soft_step s labels) i (softs_in line soft weights)
 
 abbrev invariant-loop : tie.invariant-loop
 invariant-loop s n labels line₀ soft₀ weights₀ i₀ line soft weights i = Read s n labels line₀ line soft weights i

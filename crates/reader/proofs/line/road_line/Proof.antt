@@ -5,7 +5,7 @@ use Prim.Native.Nat.{◌<◌}
 use native.Mathlib.Omega.{arith}
 use Rattle.text.proofs.Held.{first-held, held-bad, held-told, held-value, next-held}
 use Rattle.reader.specs.Pairs.{noted_of}
-use Rattle.reader.specs.Line.{roadFits}
+use Rattle.reader.specs.Line.{road_fits}
 use Rattle.reader.proofs.Noting.{noting-again}
 use Rattle.reader.proofs.Lines.{road-fault, road-bad, road-good, road-doubled, road-passed, road-ranged, road-is, road-faulty, fits_both}
 use borrow.Author.Rules.{rules}
@@ -32,7 +32,7 @@ abbrev noting : tie.After-slice-known2 → tie.After-note
 noting c = c.before.before
 
 -- where it is looked up its numbers fit, and both are those of places
-fitting : (n : tie.After-noted-arg) → roadFits (judging n).before.pair.result (start (beginning (judging n))).args.bound ≡ true
+fitting : (n : tie.After-noted-arg) → road_fits (judging n).before.pair.result (start (beginning (judging n))).args.bound ≡ true
 fitting n = sym (judging n).road-fits.ensures ∙ n.before.before.before.if1.true
 
 places : (n : tie.After-noted-arg) → let xs = (judging n).before.pair.result in (xs.first < 128) × (xs.second < 128)

@@ -1,15 +1,15 @@
 -- `digit` meets its contract: each return is one case of the first test of its definition.
 use borrow.Author.Tests.{lt-ltb, le-ltb}
-use Rattle.text.specs.Scan.{isDigit}
+use Rattle.text.specs.Scan.{is_digit}
 use Rattle.text.proofs.read.digit.Statement.{statement}
 use Rattle.text.proofs.read.digit.Tie as tie
 
 returns : tie.Need-returns
-unfolding isDigit
+unfolding is_digit
 returns c = rw (lt-ltb _ _ c.if1.true)
 
 returns-2 : tie.Need-returns-2
-unfolding isDigit
+unfolding is_digit
 returns-2 c = rw (le-ltb _ _ c.if1.false)
 
 pub digit-spec : {M : Type 1} → statement M

@@ -7,7 +7,7 @@ use Prim.Native.Nat.{ℕ, ◌+◌, ◌-◌, ◌≤◌, min}
 use native.Mathlib.Omega.{arith}
 use lib.ListN.{length, drop, get_or}
 use borrow.Author.Tests.{not-true, not-false}
-use Rattle.text.specs.Scan.{isDigit, digitCount, value}
+use Rattle.text.specs.Scan.{is_digit, digit_count, value}
 use Rattle.text.proofs.Scans.{digit-range, none-past, none_here, value-here, digit-count-more, held-value, ends-text, ends-otherwise, not-canonical, number_read}
 use borrow.Author.Rules.{rules}
 use Rattle.text.proofs.read.number_at.Statement.{statement}
@@ -16,7 +16,7 @@ use Rattle.text.proofs.read.number_at.Tie as tie
 record Scanned (s : List ℕ) (at i v : ℕ) : Type 0 where
   pub from : at ≤ i
   -- the bytes passed are digits
-  pub count : digitCount (drop at s) ≡ (i - at) + digitCount (drop i s)
+  pub count : digit_count (drop at s) ≡ (i - at) + digit_count (drop i s)
   -- v is their value, held
   pub held : min (value 0 (drop at s)) 4000000000 ≡ min (value v (drop i s)) 4000000000
   pub small : v ≤ 4000000000
@@ -42,10 +42,10 @@ module _ (c : tie.Then1 invariant-loop decreases-loop) where
   abbrev l : tie.At-loop invariant-loop decreases-loop
   l = (turn c.before).before
 
-  no_digit : isDigit (get_or (start l).args.s.now l.loop.i 0) ≡ false
+  no_digit : is_digit (get_or (start l).args.s.now l.loop.i 0) ≡ false
   no_digit = sym c.before.digit.ensures ∙ not-true _ c.if1.true
 
-  all-passed : digitCount (drop (start l).args.at (start l).args.s.now) ≡ l.loop.i - (start l).args.at
+  all-passed : digit_count (drop (start l).args.at (start l).args.s.now) ≡ l.loop.i - (start l).args.at
   all-passed = omega (arith, l.loop.inv.count, none_here (start l).args.s.now l.loop.i (turn c.before).loop-test.taken no_digit)
 
 returns : tie.Need-returns invariant-loop decreases-loop

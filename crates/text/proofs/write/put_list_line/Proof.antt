@@ -2,7 +2,7 @@
 use mathlib.Core.List.{[], ◌∷◌}
 use native.Mathlib.Omega.{arith}
 use borrow.Author.Rules.{rules}
-use Rattle.text.specs.KeyLine.{joined, keyLine}
+use Rattle.text.specs.KeyLine.{joined, key_line}
 use Rattle.text.proofs.Overs.{second-room, third-room, wrote-three}
 use Rattle.text.proofs.KeyLines.{line-length}
 use Rattle.text.proofs.write.put_list_line.Statement.{statement}
@@ -24,19 +24,19 @@ put-bytes-requires c κs =
     omega (arith, line-length a.key.now (joined a.numbers.now), (start c).requires)
 
 put-joined-requires : tie.Need-put-joined-requires
-unfolding keyLine
+unfolding key_line
 put-joined-requires c κs =
     let k = keyed c in let s = start k.before in let a = s.args in
     second-room a.key.now (joined a.numbers.now) (10 ∷ []) s.pre k.put-bytes.ensures
 
 put-byte-requires : tie.Need-put-byte-requires
-unfolding keyLine
+unfolding key_line
 put-byte-requires c κs =
     let v = valued c in let k = keyed v.before in let s = start k.before in let a = s.args in
     omega (arith, third-room a.key.now (joined a.numbers.now) (10 ∷ []) s.pre k.put-bytes.ensures v.put-joined.ensures)
 
 returns : tie.Need-returns
-unfolding keyLine
+unfolding key_line
 returns c =
     let e = c.before.before in let v = valued e.before in let k = keyed v.before in let s = start k.before in
     let a = s.args in
