@@ -53,7 +53,7 @@ fn fill(steps: &[u64; 4096], n: usize, places: usize, sets: &mut [u8])
 }
 
 // Where a part of the loop leads from a state: to the states of `ends`, and to those of `good` with an accepting state met on the way.
-#[derive(Drop)]
+#[derive(Clone, Copy)]
 struct Reach {
     ends: u8,
     good: u8,
@@ -92,7 +92,7 @@ fn word(reach: Reach) -> u64
 }
 
 // The words of four states.
-#[derive(Drop)]
+#[derive(Clone, Copy)]
 struct Four {
     a: u64,
     b: u64,

@@ -9,7 +9,7 @@ use text::write::{put_list_line, put_number_line};
 
 // An answer but for its places: `number` is 0 for a tour, else that of the refusal, and `line` the faulty line of the
 // plan or 0. `count` is how many soft rules `kept` keeps, `stem` and `cycle` are the lengths of run-in and loop.
-#[derive(Drop)]
+#[derive(Clone, Copy)]
 pub struct Answer {
     pub number: u32,
     pub line: u32,

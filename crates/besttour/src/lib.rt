@@ -11,7 +11,7 @@ use promise::{refusal_answer, tour_answer};
 
 // The product's start node and how many nodes it reaches; a node, the colours and the number of nodes of the best component. The node is n
 // where there is none.
-#[derive(Drop)]
+#[derive(Clone, Copy)]
 pub struct Target {
     pub start: usize,
     pub reached: usize,

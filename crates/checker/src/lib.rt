@@ -18,7 +18,7 @@ use scan::{Break, first_break};
 pub mod scan;
 
 // What a tour is worth: whether the hard rule accepts it, the soft rules that do as bits, and its cost.
-#[derive(Drop)]
+#[derive(Clone, Copy)]
 pub struct Worth {
     pub accepts: bool,
     pub kept: u64,
@@ -26,7 +26,7 @@ pub struct Worth {
 }
 
 // What the checker answers.
-#[derive(Drop)]
+#[derive(Clone, Copy)]
 pub enum Check {
     Refused(Refusal),
     Tour(Worth),

@@ -10,7 +10,7 @@ ghost use Rattle.checker.specs.Outcome.{break_of};
 use plan::Plan;
 
 // Where a tour breaks first, if it does; an index that 64 bits cannot hold is given as the greatest that they hold.
-#[derive(Drop)]
+#[derive(Clone, Copy)]
 pub enum Break {
     Nowhere,
     At(u64),

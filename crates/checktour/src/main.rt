@@ -13,7 +13,7 @@ use text::read::wide;
 const MOST: usize = 2000000;
 
 // Whether a file was read, and how many bytes it has.
-#[derive(Drop)]
+#[derive(Clone, Copy)]
 struct File {
     read: bool,
     length: usize,

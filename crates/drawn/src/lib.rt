@@ -10,14 +10,14 @@ use text::list::{Span, list_line, put_list};
 use text::read::{Number, key_at};
 
 // How many places run-in and loop have.
-#[derive(Drop)]
+#[derive(Clone, Copy)]
 pub struct Lengths {
     pub stem: usize,
     pub cycle: usize,
 }
 
 // Why a text has no tour: no line begins with `runin=`; a line has a fault; or a list has more places than its buffer has room for.
-#[derive(Drop)]
+#[derive(Clone, Copy)]
 pub enum Lack {
     Missing,
     Faulty(Fault),
@@ -25,14 +25,14 @@ pub enum Lack {
 }
 
 // The tour of a text.
-#[derive(Drop)]
+#[derive(Clone, Copy)]
 pub enum Drawn {
     Tour(Lengths),
     Nothing(Lack),
 }
 
 // What the two lines come to: the second or the first fault, and where the places stand.
-#[derive(Drop)]
+#[derive(Clone, Copy)]
 pub struct Draft {
     pub line: Line,
     pub stem: Span,

@@ -8,7 +8,7 @@ use libc::STDIN_FILENO;
 pub const MOST: u32 = 100000;
 
 // Whether there was a frame that the buffer has room for, and how many of its bytes there were.
-#[derive(Drop)]
+#[derive(Clone, Copy)]
 pub struct Frame {
     pub found: bool,
     pub length: usize,

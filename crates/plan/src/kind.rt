@@ -3,7 +3,7 @@ ghost use Rattle.std.specs.Prelude.{◌≡◌};
 ghost use Rattle.plan.specs.Answers.{kind_of};
 
 // A tour; a refusal without a line, or one that carries the line of the plan; no answer of plantour's.
-#[derive(Drop)]
+#[derive(Clone, Copy)]
 pub enum Kind {
     Tour,
     Plain,

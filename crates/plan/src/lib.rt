@@ -14,7 +14,7 @@ use text::read::wide;
 
 // A plan by value. Place v, for v below `places`, has the label labels[v]; road i, for i below `roads`, goes from place
 // from[i] to place to[i]; soft rule i + 1 of the file, for i below `rules`, is soft[i] with the weight weights[i].
-#[derive(Drop)]
+#[derive(Clone, Copy)]
 pub struct Plan {
     pub marks: u32,
     pub places: u32,
@@ -30,7 +30,7 @@ pub struct Plan {
 }
 
 // Why a plan, the text of an answer or a proposed tour is turned away; what it is numbered, and with which line it comes, is said in specs/Refusal.
-#[derive(Drop)]
+#[derive(Clone, Copy)]
 pub enum Refusal {
     PlanTooLong,
     Line(Fault),

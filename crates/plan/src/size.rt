@@ -36,7 +36,7 @@ fn held_size(plan: Plan) -> usize
 }
 
 // Whether the product is too large to be planned in; if not, how many nodes it has.
-#[derive(Drop)]
+#[derive(Clone, Copy)]
 pub struct Extent {
     pub large: bool,
     pub nodes: usize,

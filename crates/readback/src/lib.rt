@@ -15,7 +15,7 @@ use text::read::{Number, key_at, next_number};
 
 // What the text of an answer says: the answer's number, the line of the plan, cost, kept, and how many places run-in and
 // loop have.
-#[derive(Drop)]
+#[derive(Clone, Copy)]
 pub struct Record {
     pub number: u32,
     pub line: u32,
@@ -25,7 +25,7 @@ pub struct Record {
     pub cycle: usize,
 }
 
-#[derive(Drop)]
+#[derive(Clone, Copy)]
 pub enum Reply {
     Read(Record),
     Refused(Refusal),
@@ -33,7 +33,7 @@ pub enum Reply {
 
 // What the lines of a whole text come to: the last line or the first fault, the record, which stands if there is none, and
 // where the places stand.
-#[derive(Drop)]
+#[derive(Clone, Copy)]
 pub struct Draft {
     pub line: Line,
     pub says: Record,

@@ -7,7 +7,7 @@ use crate::line::{move_line, road_line};
 use automata::Automaton;
 use text::line::{Line, first_of, line_of_one, numbers_of};
 
-#[derive(Drop)]
+#[derive(Clone, Copy)]
 pub struct LabelBlock {
     pub line: Line,
     pub labels: [u8; 128],
@@ -29,7 +29,7 @@ pub fn label_block(s: &[u8], prior: Line, n: usize, bound: u32) -> LabelBlock
     LabelBlock { line, labels }
 }
 
-#[derive(Drop)]
+#[derive(Clone, Copy)]
 pub struct RoadBlock {
     pub line: Line,
     pub from: [u8; 1024],
@@ -56,7 +56,7 @@ pub fn road_block(s: &[u8], prior: Line, n: usize, bound: u32) -> RoadBlock
     RoadBlock { line, from, to }
 }
 
-#[derive(Drop)]
+#[derive(Clone, Copy)]
 pub struct MoveBlock {
     pub line: Line,
     pub from: [u8; 64],
@@ -114,7 +114,7 @@ pub fn label_count(m: u32) -> u32
     power(m)
 }
 
-#[derive(Drop)]
+#[derive(Clone, Copy)]
 pub struct AutomatonBlock {
     pub line: Line,
     pub automaton: Automaton,
@@ -159,7 +159,7 @@ pub fn hard_block(s: &[u8], prior: Line, labels: u32) -> AutomatonBlock
     automaton_block(s, states, first_of(states), labels)
 }
 
-#[derive(Drop)]
+#[derive(Clone, Copy)]
 pub struct SoftBlock {
     pub line: Line,
     pub automaton: Automaton,
@@ -199,7 +199,7 @@ pub fn no_automaton() -> Automaton
     }
 }
 
-#[derive(Drop)]
+#[derive(Clone, Copy)]
 pub struct SoftBlocks {
     pub line: Line,
     pub soft: [Automaton; 8],

@@ -15,7 +15,7 @@ use plan::{Plan, Refusal, refusal_line, refusal_number};
 use text::line::{Line, finish, first_of, line_of_one};
 
 // What the lines of a whole plan file come to: the last line or the first fault, and the plan, which stands if there is none.
-#[derive(Drop)]
+#[derive(Clone, Copy)]
 pub struct Draft {
     pub line: Line,
     pub plan: Plan,
@@ -57,14 +57,14 @@ fn read_lines(s: &[u8]) -> Draft
 }
 
 // Whether a plan was read, or why it is turned away.
-#[derive(Drop)]
+#[derive(Clone, Copy)]
 pub enum Outcome {
     Plan,
     Refused(Refusal),
 }
 
 // The outcome, and the plan; on a refusal the plan is empty.
-#[derive(Drop)]
+#[derive(Clone, Copy)]
 pub struct Reading {
     pub outcome: Outcome,
     pub plan: Plan,

@@ -5,7 +5,7 @@ use crate::block::{label_block, label_count, road_block};
 use text::line::{Line, first_of, line_of_one, top};
 
 // Places with labels, the start and the roads, and the last of their lines. The fields are a plan's.
-#[derive(Drop)]
+#[derive(Clone, Copy)]
 pub struct Map {
     pub line: Line,
     pub marks: u32,

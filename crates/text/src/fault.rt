@@ -3,7 +3,7 @@ ghost use Rattle.std.specs.Prelude.{◌≡◌};
 ghost use Rattle.text.specs.Fault.{number, line_of};
 
 // Its form, the range of its numbers, or that a line before has the same ones; with the line, from 1.
-#[derive(Drop)]
+#[derive(Clone, Copy)]
 pub enum Fault {
     Form(usize),
     Range(usize),

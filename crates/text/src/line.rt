@@ -7,13 +7,13 @@ use crate::fault::Fault;
 use crate::read::{Number, key_at, line_at, next_number};
 
 // Where the next line begins.
-#[derive(Drop)]
+#[derive(Clone, Copy)]
 pub struct Cursor {
     pub at: usize,
 }
 
 // The numbers of a line in their order, 0 where it has fewer.
-#[derive(Drop)]
+#[derive(Clone, Copy)]
 pub struct Numbers {
     pub first: u32,
     pub second: u32,
@@ -22,7 +22,7 @@ pub struct Numbers {
     pub fifth: u32,
 }
 
-#[derive(Drop)]
+#[derive(Clone, Copy)]
 pub enum Line {
     Numbers(Numbers, Cursor),
     Fault(Fault),

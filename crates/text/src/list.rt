@@ -7,21 +7,21 @@ use crate::line::{Line, bad_form, judged, pair};
 use crate::read::{Number, key_at, number_at};
 
 // Where the first number of a list stands, and how many it has.
-#[derive(Drop)]
+#[derive(Clone, Copy)]
 pub struct Span {
     pub at: usize,
     pub count: usize,
 }
 
 // A line that holds a list.
-#[derive(Drop)]
+#[derive(Clone, Copy)]
 pub struct ListLine {
     pub line: Line,
     pub list: Span,
 }
 
 // How many numbers there are, whether all are below the bound, and the index behind them.
-#[derive(Drop)]
+#[derive(Clone, Copy)]
 pub struct Run {
     pub count: usize,
     pub fit: bool,
@@ -29,7 +29,7 @@ pub struct Run {
 }
 
 // A list that was read, or none of good form.
-#[derive(Drop)]
+#[derive(Clone, Copy)]
 pub enum Listing {
     Items(Run),
     Bad,

@@ -3,7 +3,7 @@ ghost use Rattle.std.specs.Prelude.{◌≡◌, ◌+◌, ◌-◌, ◌*◌, ◌≤
 ghost use Rattle.text.specs.Scan.{is_digit, canonical, key_at, number_at, next_number, else_number, either, value_of, cap, newline, line_at};
 
 // A number with the index just past it, or no number of good form there.
-#[derive(Drop)]
+#[derive(Clone, Copy)]
 pub enum Number {
     Value(u32, usize),
     Bad,
