@@ -11,6 +11,6 @@ returns c =
     let a = s.args in
     judged a.a a.labels.now a.stem.now a.cycle.now _ a.places c.decide.result s.requires.0 f.fill.ensures s.requires.2 s.requires.3 c.decide.ensures
 
-pub accepts-in-spec : {M : Type 1} → statement M
-accepts-in-spec =
+pub accepts_in_spec : {M : Type 1} → statement M
+accepts_in_spec =
     tie.close (tie.spec (λ c. search rules) (λ c κs. search rules) (λ c. search rules) (λ c. search rules) (λ c κs. search rules) returns)

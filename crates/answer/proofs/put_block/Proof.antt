@@ -16,17 +16,17 @@ returns c =
     let c₁ = c₂.before.before.before.before in
     let s = c₁.before.before.before in
     block-done s.args.a s.requires
-    c₁.put-little.ensures
-    c₂.put-little2.ensures
-    c₃.put-little3.ensures
-    c₄.put-little4.ensures
-    c₅.put-little5.ensures
-    c₆.put-little6.ensures
-    c₇.put-little7.ensures
-    c₈.put-little8.ensures
+    c₁.put_little.ensures
+    c₂.put_little-2.ensures
+    c₃.put_little-3.ensures
+    c₄.put_little-4.ensures
+    c₅.put_little-5.ensures
+    c₆.put_little-6.ensures
+    c₇.put_little-7.ensures
+    c₈.put_little-8.ensures
 
-pub put-block-spec : {M : Type 1} → statement M
-put-block-spec =
+pub put_block_spec : {M : Type 1} → statement M
+put_block_spec =
     tie.close
     (tie.spec
     (λ c κs. search rules)

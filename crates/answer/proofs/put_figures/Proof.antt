@@ -23,7 +23,7 @@ abbrev cost : Answer → List ℕ
 cost a = key_line cost_key (decimal a.cost)
 
 abbrev kept : Answer → List ℕ
-kept a = key_line kept_key (decimal a.kept)
+kept a = key_line kept_key (decimal a.auto)
 
 module _ (a : Answer) (b : List ℕ) (room : length (figures a) ≤ length b) where
   from-number : Left b 0 (figures a) b 0 (number a ++ (line a ++ (cost a ++ kept a)))
@@ -58,56 +58,52 @@ module _ (a : Answer) (b : List ℕ) (room : length (figures a) ≤ length b) wh
         all d₄ = left-last from-kept d₄
 
 -- the places that the answers refer to: where the function starts, and after each line but the last
-abbrev start : tie.After-put-number-line-arg2 → tie.Start
+abbrev start : tie.After-put_number_line-arg-2-1 → tie.Start
 start c = c.before.before.before
 
-abbrev numbered : tie.After-put-number-line-arg4 → tie.After-put-number-line
+abbrev numbered : tie.After-put_number_line-arg-4-1 → tie.After-put_number_line-at
 numbered c = c.before.before.before.before
 
-abbrev lined : tie.After-put-number-line-arg6 → tie.After-put-number-line2
+abbrev lined : tie.After-put_number_line-arg-6-1 → tie.After-put_number_line-at-2
 lined c = c.before.before.before.before
 
-abbrev costed : tie.After-put-number-line-arg8 → tie.After-put-number-line3
+abbrev costed : tie.After-put_number_line-arg-8-1 → tie.After-put_number_line-at-3
 costed c = c.before.before.before.before
 
-put-number-line-requires : tie.Need-put-number-line-requires
-put-number-line-requires c κs = let s = start c in first-room s.args.a s.args.out.now s.pre
+put-number-line-requires : tie.Need-put_number_line-at-requires
+put-number-line-requires c κs = let s = start c in first-room s.args.a s.args.out.now s.requires
 
-put-number-line-requires-2 : tie.Need-put-number-line-requires-2
+put-number-line-requires-2 : tie.Need-put_number_line-at-requires-2
 put-number-line-requires-2 c κs =
     let n = numbered c in let s = start n.before in
-    second-room s.args.a s.args.out.now s.pre n.put-number-line.ensures
+    second-room s.args.a s.args.out.now s.requires n.put_number_line-at.ensures
 
-put-number-line-requires-3 : tie.Need-put-number-line-requires-3
+put-number-line-requires-3 : tie.Need-put_number_line-at-requires-3
 put-number-line-requires-3 c κs =
     let l = lined c in let n = numbered l.before in let s = start n.before in
-    third-room s.args.a s.args.out.now s.pre n.put-number-line.ensures l.put-number-line2.ensures
+    third-room s.args.a s.args.out.now s.requires n.put_number_line-at.ensures l.put_number_line-at-2.ensures
 
-put-number-line-requires-4 : tie.Need-put-number-line-requires-4
+put-number-line-requires-4 : tie.Need-put_number_line-requires
 put-number-line-requires-4 c κs =
     let o = costed c in let l = lined o.before in let n = numbered l.before in let s = start n.before in
-    fourth-room s.args.a s.args.out.now s.pre n.put-number-line.ensures l.put-number-line2.ensures
-    o.put-number-line3.ensures
+    fourth-room s.args.a s.args.out.now s.requires n.put_number_line-at.ensures l.put_number_line-at-2.ensures
+    o.put_number_line-at-3.ensures
 
 returns : tie.Need-returns
 returns c =
     let k = c.before.before in let o = costed k.before in let l = lined o.before in let n = numbered l.before in
     let s = start n.before in
-    all s.args.a s.args.out.now s.pre n.put-number-line.ensures l.put-number-line2.ensures
-    o.put-number-line3.ensures
-    k.put-number-line4.ensures
+    all s.args.a s.args.out.now s.requires n.put_number_line-at.ensures l.put_number_line-at-2.ensures
+    o.put_number_line-at-3.ensures
+    k.put_number_line.ensures
 
-pub put-figures-spec : {M : Type 1} → statement M
-put-figures-spec =
+pub put_figures_spec : {M : Type 1} → statement M
+put_figures_spec =
     tie.close
     (tie.spec
-    (λ c. search rules)
     put-number-line-requires
-    (λ c. search rules)
     put-number-line-requires-2
-    (λ c. search rules)
     put-number-line-requires-3
-    (λ c. search rules)
     put-number-line-requires-4
     (λ c. search rules)
     returns)

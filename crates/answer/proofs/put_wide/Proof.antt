@@ -36,31 +36,31 @@ module _ {b : List ℕ} (at : ℕ) {text block : List ℕ} (i n rest : ℕ) wher
       let z : n - i ≡ 0 = omega arith in
       rw (← e) (left_end (rw z at l))
 
-abbrev invariant-loop : tie.invariant-loop
+abbrev invariant-loop : tie.invariant-loop-i
 invariant-loop block₀ at n x rest₀ i₀ block rest i = (i ≤ n) × Left block₀ at (little n x) block (at + i) (little (n - i) rest)
 
-abbrev decreases-loop : tie.decreases-loop
+abbrev decreases-loop : tie.decreases-loop-i
 decreases-loop block₀ at n x rest₀ i₀ block rest i = n - i
 
-loop-holds : tie.Need-loop-init invariant-loop decreases-loop
+loop-holds : tie.Need-loop-i-init invariant-loop decreases-loop
 loop-holds c =
     let a = c.args in
     (omega arith, start a.block.now a.at a.n a.x (omega arith))
 
-loop-again : tie.Need-loop-preserved invariant-loop decreases-loop
+loop-again : tie.Need-loop-i-preserved invariant-loop decreases-loop
 loop-again c =
     let a = c.before.before.args in
-    let l = c.before.loop in
+    let l = c.before.loop-i in
     (omega arith, next a.at l.i a.n l.rest (omega arith) l.invariant.1)
 
 returns : tie.Need-returns invariant-loop decreases-loop
 returns c =
     let a = c.before.before.args in
-    let l = c.before.loop in
+    let l = c.before.loop-i in
     end a.at l.i a.n l.rest (omega arith) l.invariant.1
 
-pub put-wide-spec : {M : Type 1} → statement M
-put-wide-spec =
+pub put_wide_spec : {M : Type 1} → statement M
+put_wide_spec =
     tie.close
     (tie.spec
     invariant-loop

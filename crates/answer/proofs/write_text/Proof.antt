@@ -12,45 +12,45 @@ use Rattle.answer.proofs.write_text.Statement.{statement}
 use Rattle.answer.proofs.write_text.Tie as tie
 
 -- the places that the answers refer to: where the function starts, and after the first two parts
-abbrev start : tie.After-slice-known → tie.Start
+abbrev start : tie.After-slice_known-1 → tie.Start
 start c = c.before.before.before
 
-abbrev figured : tie.After-put-list-line-arg2 → tie.After-put-figures
+abbrev figured : tie.After-put_list_line-arg-2-1 → tie.After-put_figures-at
 figured c = c.before.before.before.before
 
-abbrev listed : tie.After-put-list-line-arg4 → tie.After-put-list-line
+abbrev listed : tie.After-put_list_line-arg-4-1 → tie.After-put_list_line-at
 listed c = c.before.before.before.before
 
-figures-short : (c : tie.After-slice-known) → length (figures (start c).args.a) ≤ 66
+figures-short : (c : tie.After-slice_known-1) → length (figures (start c).args.a) ≤ 66
 figures-short c =
     let s = start c in
-    figures-length s.args.a (omega (arith, s.good.0)) (omega (arith, s.good.0)) (omega (arith, s.good.0))
-    (omega (arith, s.good.0))
+    figures-length s.args.a (omega (arith, s.well_formed.0)) (omega (arith, s.well_formed.0)) (omega (arith, s.well_formed.0))
+    (omega (arith, s.well_formed.0))
 
-room : (c : tie.After-slice-known)
+room : (c : tie.After-slice_known-1)
     → let a = (start c).args in
     0 + length (text_of a.a a.runin.now a.cycle.now) ≤ length a.out.now
 room c =
     let s = start c in let a = s.args in
     omega (
       arith,
-      s.pre,
+      s.requires,
       text-length a.a a.runin.now a.cycle.now (figures-short c)
-          (λ i. omega (arith, c.before.before.shared-slice-known.given i))
-          (λ i. omega (arith, c.before.shared-slice-known2.given i)),
+          (λ i. omega (arith, c.before.before.shared_slice_known-1.given i))
+          (λ i. omega (arith, c.before.shared_slice_known-2-1.given i)),
     )
 
-put-figures-requires : tie.Need-put-figures-requires
+put-figures-requires : tie.Need-put_figures-at-requires
 put-figures-requires c κs = omega (arith, figures-short c.before, (start c.before).requires)
 
-put-list-line-requires : tie.Need-put-list-line-requires
+put-list-line-requires : tie.Need-put_list_line-at-requires
 unfolding text_of
 put-list-line-requires c κs =
     let f = figured c in let k = f.before.before in let a = (start k).args in
     second-room (figures a.a) (key_line runin_key (joined a.runin.now)) (key_line loop_key (joined a.cycle.now)) (room k)
     f.put-figures.ensures
 
-put-list-line-requires-2 : tie.Need-put-list-line-requires-2
+put-list-line-requires-2 : tie.Need-put_list_line-requires
 unfolding text_of
 put-list-line-requires-2 c κs =
     let l = listed c in let f = figured l.before in let k = f.before.before in let a = (start k).args in
@@ -67,16 +67,14 @@ returns c =
     (wrote-three (figures a.a) (key_line runin_key (joined a.runin.now)) (key_line loop_key (joined a.cycle.now)) (room k)
     f.put-figures.ensures
     l.put-list-line.ensures
-    e.put-list-line2.ensures)
+    e.put_list_line.ensures)
 
-pub write-text-spec : {M : Type 1} → statement M
-write-text-spec =
+pub write_text_spec : {M : Type 1} → statement M
+write_text_spec =
     tie.close
     (tie.spec
     put-figures-requires
-    (λ c. search rules)
     put-list-line-requires
-    (λ c. search rules)
     put-list-line-requires-2
     (λ c. search rules)
     returns)

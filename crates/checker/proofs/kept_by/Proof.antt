@@ -7,53 +7,53 @@ use Rattle.checker.proofs.Worths.{keeping_start, keeping-next, keeping-end, keep
 use Rattle.checker.proofs.kept_by.Statement.{statement}
 use Rattle.checker.proofs.kept_by.Tie as tie
 
-abbrev invariant-loop : tie.invariant-loop
+abbrev invariant-loop : tie.invariant-loop-i
 invariant-loop p stem cycle rules kept₀ weight₀ i₀ kept weight i = Keeping p stem cycle i weight kept × (p.rules ≤ 8)
 
-abbrev decreases-loop : tie.decreases-loop
+abbrev decreases-loop : tie.decreases-loop-i
 decreases-loop p stem cycle rules kept₀ weight₀ i₀ kept weight i = rules - i
 
-abbrev entered : tie.At-loop invariant-loop decreases-loop → tie.Start invariant-loop decreases-loop
+abbrev entered : tie.At-loop-i invariant-loop decreases-loop → tie.Start invariant-loop decreases-loop
 entered c = c.before.before.before.before
 
-abbrev turned : tie.After-kept-of invariant-loop decreases-loop → tie.At-loop invariant-loop decreases-loop
+abbrev turned : tie.After-kept_of-kept invariant-loop decreases-loop → tie.At-loop-i invariant-loop decreases-loop
 turned c = c.before.before
 
-loop-holds : tie.Need-loop-init invariant-loop decreases-loop
+loop-holds : tie.Need-loop-i-init invariant-loop decreases-loop
 loop-holds c = let s = c.before.before.before in (keeping_start s.args.p s.args.stem.now s.args.cycle.now, s.requires.0.rules)
 
-kept-of-requires : tie.Need-kept-of-requires invariant-loop decreases-loop
-kept-of-requires c κs = let s = entered c.before in (s.pre.0, s.pre.1, omega arith)
+kept-of-requires : tie.Need-kept_of-kept-requires invariant-loop decreases-loop
+kept-of-requires c κs = let s = entered c.before in (s.requires.0, s.requires.1, omega arith)
 
-low : (c : tie.After-kept-of invariant-loop decreases-loop) → ((turned c).loop.weight ≤ 256) × ((turned c).loop.auto < 256)
+low : (c : tie.After-kept_of-kept invariant-loop decreases-loop) → ((turned c).loop-i.weight ≤ 256) × ((turned c).loop-i.auto < 256)
 low c =
     let at = turned c in
     let a = (entered at).args in
-    let l = at.loop in
-    keeping-low a.p a.stem.now a.cycle.now l.i l.weight l.kept (omega (arith, l.inv.0.listed, l.inv.1)) l.inv.0
+    let l = at.loop-i in
+    keeping-low a.p a.stem.now a.cycle.now l.i l.weight l.auto (omega (arith, l.invariant.0.listed, l.invariant.1)) l.invariant.0
 
-add_kept : tie.Need-overflow-add-kept invariant-loop decreases-loop
-add_kept c = let a = (entered (turned c)).args in search (rules, low c, bit-low a.p a.stem.now a.cycle.now c.kept_of.ensures)
+add_kept : tie.Need-overflow_add-kept invariant-loop decreases-loop
+add_kept c = let a = (entered (turned c)).args in search (rules, low c, bit-low a.p a.stem.now a.cycle.now c.kept_of-kept.ensures)
 
-mul-weight : tie.Need-overflow-mul-weight invariant-loop decreases-loop
+mul-weight : tie.Need-overflow_mul-weight invariant-loop decreases-loop
 mul-weight c = search (rules, low c)
 
-loop-again : tie.Need-loop-preserved invariant-loop decreases-loop
+loop-again : tie.Need-loop-i-preserved invariant-loop decreases-loop
 loop-again c =
     let at = turned c in
     let a = (entered at).args in
-    let l = at.loop in
-    (keeping-next a.p a.stem.now a.cycle.now l.i l.weight l.kept l.inv.0 (omega arith) c.kept_of.result c.kept_of.ensures, l.inv.1)
+    let l = at.loop-i in
+    (keeping-next a.p a.stem.now a.cycle.now l.i l.weight l.auto l.invariant.0 (omega arith) c.kept_of-kept.result c.kept_of-kept.ensures, l.invariant.1)
 
 returns : tie.Need-returns invariant-loop decreases-loop
 returns c =
     let at = c.before in
     let a = (entered at).args in
-    let l = at.loop in
+    let l = at.loop-i in
     keeping-end a.p a.stem.now a.cycle.now l.i l.weight l.auto (omega (arith, l.invariant.0.listed)) l.invariant.0
 
-pub kept-by-spec : {M : Type 1} → statement M
-kept-by-spec =
+pub kept_by_spec : {M : Type 1} → statement M
+kept_by_spec =
     tie.close
     (tie.spec
     invariant-loop

@@ -16,16 +16,16 @@ returns c =
     let c₁ = c₂.before.before.before.before in
     let s = c₁.before.before.before in
     head_done s.args.number s.args.line s.args.worth _ s.requires f.flag.ensures
-    c₁.put-little.ensures
-    c₂.put-wide.ensures
-    c₃.put-little2.ensures
-    c₄.put-little3.ensures
-    c₅.put-wide2.ensures
-    c₆.put-wide3.ensures
-    c₇.put-little4.ensures
+    c₁.put_little.ensures
+    c₂.put_wide.ensures
+    c₃.put_little-2.ensures
+    c₄.put_little-3.ensures
+    c₅.put_wide-2.ensures
+    c₆.put_wide-3.ensures
+    c₇.put_little-4.ensures
 
-pub put-head-spec : {M : Type 1} → statement M
-put-head-spec =
+pub put_head_spec : {M : Type 1} → statement M
+put_head_spec =
     tie.close
     (tie.spec
     (λ c κs. search rules)

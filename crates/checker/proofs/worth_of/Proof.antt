@@ -3,8 +3,8 @@ use borrow.Author.Rules.{rules}
 use Rattle.checker.proofs.worth_of.Statement.{statement}
 use Rattle.checker.proofs.worth_of.Tie as tie
 
-returns : tie.Need-returns
-returns c = rw c.enum_told.given.1
+returns : tie.Need-returns-in-Refused
+returns c = rw c.enum_told-1.given.1
 
-pub worth-of-spec : {M : Type 1} → statement M
-worth-of-spec = tie.close (tie.spec (λ c. search rules) (λ c. search rules) returns (λ c. search rules))
+pub worth_of_spec : {M : Type 1} → statement M
+worth_of_spec = tie.close (tie.spec (λ c. search rules) (λ c. search rules) returns (λ c. search rules))

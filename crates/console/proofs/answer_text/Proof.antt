@@ -9,37 +9,37 @@ use Rattle.console.proofs.answer_text.Statement.{statement}
 use Rattle.console.proofs.answer_text.Tie as tie
 
 -- the places that the answers below refer to
-abbrev answered : tie.After-struct-known2 → tie.After-file-answer
+abbrev answered : tie.After-struct_known-2-1 → tie.After-file_answer-a
 answered c = c.before.before.before.before.before.before
 
-abbrev start : tie.After-file-answer → tie.Start
+abbrev start : tie.After-file_answer-a → tie.Start
 start c = c.before.before.before.before.before.before.before
 
-slice-reshare-prefix-write-text : tie.Need-slice-reshare-prefix-write-text
-slice-reshare-prefix-write-text c = let f = told-fits _ _ _ _ _ _ (answered c).file-answer.ensures in omega (arith, f.0, f.1)
+slice-reshare-prefix-write-text : tie.Need-slice_bounds-write_text-end
+slice-reshare-prefix-write-text c = let f = told-fits _ _ _ _ _ _ (answered c).file_answer-a.ensures in omega (arith, f.0, f.1)
 
-slice-aggregate-write-text : tie.Need-slice-aggregate-write-text
-slice-aggregate-write-text c = let f = told-fits _ _ _ _ _ _ (answered c.before).file-answer.ensures in length-take_of_le _ _ (omega (arith, f.0, f.1))
+slice-aggregate-write-text : tie.Need-slice_bounds-write_text-end-2
+slice-aggregate-write-text c = let f = told-fits _ _ _ _ _ _ (answered c.before).file_answer-a.ensures in length-take_of_le _ _ (omega (arith, f.0, f.1))
 
-slice-reshare-prefix-write-text-2 : tie.Need-slice-reshare-prefix-write-text-2
-slice-reshare-prefix-write-text-2 c = let f = told-fits _ _ _ _ _ _ (answered c.before).file-answer.ensures in omega (arith, f.0, f.1)
+slice-reshare-prefix-write-text-2 : tie.Need-slice_bounds-write_text-end-3
+slice-reshare-prefix-write-text-2 c = let f = told-fits _ _ _ _ _ _ (answered c.before).file_answer-a.ensures in omega (arith, f.0, f.1)
 
-slice-aggregate-write-text-2 : tie.Need-slice-aggregate-write-text-2
-slice-aggregate-write-text-2 c = let f = told-fits _ _ _ _ _ _ (answered c.before.before).file-answer.ensures in length-take_of_le _ _ (omega (arith, f.0, f.1))
+slice-aggregate-write-text-2 : tie.Need-slice_bounds-write_text-end-4
+slice-aggregate-write-text-2 c = let f = told-fits _ _ _ _ _ _ (answered c.before.before).file_answer-a.ensures in length-take_of_le _ _ (omega (arith, f.0, f.1))
 
-write-text-requires : tie.Need-write-text-requires
+write-text-requires : tie.Need-write_text-requires
 write-text-requires c κs =
     let told = answered c.before.before.before in
-    simp length-take (omega (arith, told.file-answer.kept, (start told).pre.1))
+    simp length-take (omega (arith, told.file_answer-a.auto, (start told).requires.1))
 
 returns : tie.Need-returns
 returns c =
     let w = c.before.before in
     let told = answered w.before.before.before.before in
-    record { answer = told.file-answer.result; told = told.file-answer.ensures; text = w.write-text.ensures.1; long = w.write-text.ensures.0 }
+    record { answer = told.file_answer-a.result; told = told.file_answer-a.ensures; text = w.write_text.ensures.1; long = w.write_text.ensures.0 }
 
-pub answer-text-spec : {M : Type 1} → statement M
-answer-text-spec =
+pub answer_text_spec : {M : Type 1} → statement M
+answer_text_spec =
     tie.close
     (tie.spec
     (λ c. c.before.before.before.requires.0)

@@ -16,30 +16,30 @@ record Sought (s key : List ℕ) (fresh : Bool) (i : ℕ) : Type 0 where
   -- what is left to search decides
   pub same : line_with key true 0 s ≡ line_with key fresh i (drop i s)
 
-abbrev invariant-loop : tie.invariant-loop
+abbrev invariant-loop : tie.invariant-loop-i
 invariant-loop s key fresh₀ i₀ fresh i = Sought s key fresh i
 
-abbrev decreases-loop : tie.decreases-loop
+abbrev decreases-loop : tie.decreases-loop-i
 decreases-loop s key fresh₀ i₀ fresh i = length s - i
 
-returns : tie.Need-returns invariant-loop decreases-loop
+returns : tie.Need-returns-then-begins invariant-loop decreases-loop
 returns c =
-    let b = c.before in let t = b.before in let l = t.before.loop in
-    sym (l.invariant.same ∙ with-here _ _ _ _ t.loop-test.true (sym b.begins.ensures ∙ c.if1.true))
+    let b = c.before in let t = b.before in let l = t.before.loop-i in
+    sym (l.invariant.same ∙ with-here _ _ _ _ t.loop-i-test.true (sym b.begins.ensures ∙ c.if-begins.true))
 
-loop-again : tie.Need-loop-preserved invariant-loop decreases-loop
+loop-again : tie.Need-loop-i-preserved invariant-loop decreases-loop
 loop-again c =
-    let e = c.before.before in let b = e.before in let t = b.before in let l = t.before.loop in
+    let e = c.before.before in let b = e.before in let t = b.before in let l = t.before.loop-i in
     record {
       within = omega arith;
-      same = l.invariant.same ∙ with-on _ _ _ _ t.loop-test.true (sym b.begins.ensures ∙ e.if1.false) ∙ rw c.ends-line.ensures;
+      same = l.invariant.same ∙ with-on _ _ _ _ t.loop-i-test.true (sym b.begins.ensures ∙ e.if-begins.false) ∙ rw c.ends_line-fresh.ensures;
     }
 
-returns-2 : tie.Need-returns-2 invariant-loop decreases-loop
-returns-2 c = let l = c.before.loop in sym (l.invariant.same ∙ with-past _ _ _ _ c.loop-test.false)
+returns-2 : tie.Need-returns invariant-loop decreases-loop
+returns-2 c = let l = c.before.loop-i in sym (l.invariant.same ∙ with-past _ _ _ _ c.loop-i-test.false)
 
-pub line-with-spec : {M : Type 1} → statement M
-line-with-spec =
+pub line_with_spec : {M : Type 1} → statement M
+line_with_spec =
     tie.close
     (tie.spec
     invariant-loop

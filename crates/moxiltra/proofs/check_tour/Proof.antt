@@ -6,23 +6,23 @@ use Rattle.moxiltra.proofs.check_tour.Statement.{statement}
 use Rattle.moxiltra.proofs.check_tour.Tie as tie
 
 -- the places that the answers refer to: where the tour was checked, and where the block is written
-abbrev told : tie.After-put-check → tie.After-check-tour
+abbrev told : tie.After-put_check → tie.After-check_tour-check
 told w = w.before.before
 
-abbrev written : tie.After-check-number → tie.After-put-check
+abbrev written : tie.After-check_number → tie.After-put_check
 written n = n.before.before.before
 
-returns : tie.Need-returns
-returns c = check-short _ _ _ _ (omega (arith, c.before.if1.true)) _ c.refusal-number.ensures
+returns : tie.Need-returns-then-block-lt24
+returns c = check-short _ _ _ _ (omega (arith, c.before.if-block-lt24.true)) _ c.refusal_number.ensures
 
-returns-2 : tie.Need-returns-2
+returns-2 : tie.Need-returns
 returns-2 c =
     let w = written c in
     let k = told w in
-    check-told _ _ _ _ _ k.check-tour.result _ (omega (arith, k.before.if1.left)) k.check-tour.ensures w.put-check.ensures c.check-number.ensures
+    check-told _ _ _ _ _ k.check_tour-check.result _ (omega (arith, k.before.if-block-lt24.false)) k.check_tour-check.ensures w.put_check.ensures c.check_number.ensures
 
-pub check-tour-spec : {M : Type 1} → statement M
-check-tour-spec =
+pub check_tour_spec : {M : Type 1} → statement M
+check_tour_spec =
     tie.close
     (tie.spec
     (λ c κs. search rules)

@@ -6,25 +6,25 @@ use Rattle.moxiltra.proofs.read_answer.Statement.{statement}
 use Rattle.moxiltra.proofs.read_answer.Tie as tie
 
 -- the places that the answers refer to: where the block is long enough, where the text was read, and where the block is written
-abbrev enough : tie.After-read-answer → tie.Else1
+abbrev enough : tie.After-read_answer-reply → tie.Else-block-lt32
 enough q = q.before.before.before
 
-abbrev read : tie.After-put-reply → tie.After-read-answer
+abbrev read : tie.After-put_reply → tie.After-read_answer-reply
 read w = w.before.before.before.before.before.before
 
-abbrev written : tie.After-reply-number → tie.After-put-reply
+abbrev written : tie.After-reply_number → tie.After-put_reply
 written n = n.before.before.before
 
-returns : tie.Need-returns
-returns c = reply-short _ _ (omega (arith, c.before.if1.true)) _ c.refusal-number.ensures
+returns : tie.Need-returns-then-block-lt32
+returns c = reply-short _ _ (omega (arith, c.before.if-block-lt32.true)) _ c.refusal_number.ensures
 
-returns-2 : tie.Need-returns-2
+returns-2 : tie.Need-returns
 returns-2 c =
-    let w = written c in let q = read w in let e = q.read_answer.ensures in
-    reply-told _ _ _ _ _ _ _ _ _ (omega (arith, (enough q).if1.left)) e.0 e.1.0 e.1.1 w.put-reply.ensures c.reply-number.ensures
+    let w = written c in let q = read w in let e = q.read_answer-reply.ensures in
+    reply-told _ _ _ _ _ _ _ _ _ (omega (arith, (enough q).if-block-lt32.false)) e.0 e.1.0 e.1.1 w.put_reply.ensures c.reply_number.ensures
 
-pub read-answer-spec : {M : Type 1} → statement M
-read-answer-spec =
+pub read_answer_spec : {M : Type 1} → statement M
+read_answer_spec =
     tie.close
     (tie.spec
     (λ c κs. search rules)

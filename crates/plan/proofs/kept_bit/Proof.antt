@@ -8,7 +8,7 @@ use Rattle.plan.proofs.kept_bit.Statement.{statement}
 use Rattle.plan.proofs.kept_bit.Tie as tie
 
 returns : tie.Need-returns
-returns c = let e = and_mask _ 1 ∙ sym (bit-shift c.args.kept c.args.i) in (e, omega (arith, e, bit-lt c.args.kept c.args.i))
+returns c = let e = and_mask _ 1 ∙ sym (bit-shift c.args.auto c.args.i) in (e, omega (arith, e, bit-lt c.args.auto c.args.i))
 
-pub kept-bit-spec : {M : Type 1} → statement M
-kept-bit-spec = tie.close (tie.spec (λ c. search rules) returns)
+pub kept_bit_spec : {M : Type 1} → statement M
+kept_bit_spec = tie.close (tie.spec (λ c. search rules) returns)

@@ -8,7 +8,7 @@ use Rattle.plan.proofs.key_of.Tie as tie
 
 returns : tie.Need-returns
 unfolding key_of
-returns c = ap₂ (λ x y. x * 256 + y) c.before.cost-of.ensures.0 c.tie-of.ensures.0
+returns c = ap₂ (λ x y. x * 256 + y) c.before.cost_of.ensures.0 c.tie_of.ensures.0
 
-pub key-of-spec : {M : Type 1} → statement M
-key-of-spec = tie.close (tie.spec (λ c κs. search rules) (λ c. search rules) (λ c κs. search rules) (λ c. search rules) returns)
+pub key_of_spec : {M : Type 1} → statement M
+key_of_spec = tie.close (tie.spec (λ c κs. search rules) (λ c. search rules) (λ c κs. search rules) (λ c. search rules) returns)

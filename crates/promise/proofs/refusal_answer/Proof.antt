@@ -10,7 +10,7 @@ abbrev told : ℕ → ℕ → Answer
 told number line = record { number = number; line = line; cost = 0; kept = 0; count = 0; stem = 0; cycle = 0 }
 
 returns : tie.Need-returns
-returns c = ap₂ told c.before.refusal-number.ensures c.refusal-line.ensures
+returns c = ap₂ told c.before.refusal_number.ensures c.refusal_line.ensures
 
-pub refusal-answer-spec : {M : Type 1} → statement M
-refusal-answer-spec = tie.close (tie.spec (λ c κs. search rules) (λ c κs. search rules) (λ c. search rules) returns)
+pub refusal_answer_spec : {M : Type 1} → statement M
+refusal_answer_spec = tie.close (tie.spec (λ c κs. search rules) (λ c κs. search rules) (λ c. search rules) returns)

@@ -13,16 +13,16 @@ use Rattle.promise.proofs.tour_answer.Tie as tie
 abbrev cost-answer : ℕ → ℕ → ℕ → ℕ → Answer
 cost-answer k s l x = record { number = 0; line = 0; cost = x; kept = k; count = ones k; stem = s; cycle = l }
 
-abbrev start : tie.After-cost-of → tie.Start
+abbrev start : tie.After-cost_of-cost → tie.Start
 start c = c.before.before.before.before
 
-cast-t9 : tie.Need-overflow-cast-t9
-cast-t9 c = let s = start c in omega (arith, c.cost-of.ensures.0, cost-small s.args.p s.pre.0 s.args.kept)
+cast-t9 : tie.Need-overflow_cast-result
+cast-t9 c = let s = start c in omega (arith, c.cost_of-cost.ensures.0, cost-small s.args.p s.requires.0 s.args.auto)
 
 returns : tie.Need-returns
-returns c = let a = (start c).args in ap (cost-answer a.kept a.stem a.cycle) c.cost-of.ensures.0
+returns c = let a = (start c).args in ap (cost-answer a.auto a.stem a.cycle) c.cost_of-cost.ensures.0
 
-pub tour-answer-spec : {M : Type 1} → statement M
-tour-answer-spec =
+pub tour_answer_spec : {M : Type 1} → statement M
+tour_answer_spec =
     tie.close
     (tie.spec (λ c. search rules) (λ c κs. search rules) cast-t9 (λ c. search rules) (λ c. search rules) (λ c. search rules) (λ c. search rules) returns)

@@ -4,11 +4,11 @@ use borrow.Author.Rules.{rules}
 use Rattle.readback.proofs.is_lined.Statement.{statement}
 use Rattle.readback.proofs.is_lined.Tie as tie
 
-returns : tie.Need-returns
-returns c = rw (lt-ltb _ _ c.before.if1.true) c.blank.ensures
+returns : tie.Need-returns-then-line-gt0
+returns c = rw (lt-ltb _ _ c.before.if-line-gt0.true) c.blank.ensures
 
-returns-2 : tie.Need-returns-2
-returns-2 c = rw (le-ltb _ _ c.if1.false)
+returns-2 : tie.Need-returns
+returns-2 c = rw (le-ltb _ _ c.if-line-gt0.false)
 
-pub is-lined-spec : {M : Type 1} → statement M
-is-lined-spec = tie.close (tie.spec (λ c κs. search rules) returns returns-2)
+pub is_lined_spec : {M : Type 1} → statement M
+is_lined_spec = tie.close (tie.spec (λ c κs. search rules) returns returns-2)

@@ -3,11 +3,11 @@ use borrow.Author.Tests.{le-leb, lt-leb}
 use Rattle.readback.proofs.roomy.Statement.{statement}
 use Rattle.readback.proofs.roomy.Tie as tie
 
-returns : tie.Need-returns
-returns c = rw (le-leb _ _ c.before.if1.true)
+returns : tie.Need-returns-then-x-runin
+returns c = rw (le-leb _ _ c.before.if-x-runin.true)
 
-returns-2 : tie.Need-returns-2
-returns-2 c = rw (lt-leb _ _ c.if1.false)
+returns-2 : tie.Need-returns
+returns-2 c = rw (lt-leb _ _ c.if-x-runin.false)
 
-pub roomy-spec : {M : Type 1} → statement M
-roomy-spec = tie.close (tie.spec returns returns-2)
+pub roomy_spec : {M : Type 1} → statement M
+roomy_spec = tie.close (tie.spec returns returns-2)

@@ -4,7 +4,7 @@ use Rattle.reader.proofs.no_plan.Statement.{statement}
 use Rattle.reader.proofs.no_plan.Tie as tie
 
 returns : tie.Need-returns
-returns c = rw c.no-automaton.ensures
+returns c = rw c.no_automaton-hard.ensures
 
-pub no-plan-spec : {M : Type 1} → statement M
-no-plan-spec = tie.close (tie.spec (λ c κs. search rules) returns)
+pub no_plan_spec : {M : Type 1} → statement M
+no_plan_spec = tie.close (tie.spec (λ c κs. search rules) returns)

@@ -11,17 +11,16 @@ returns c =
     let count = soft.before.before in
     let hard = count.before.before in
     let map = hard.before.before in
-    draft-made _ _ _ _ _ _ _ _ map.read-map.ensures.same hard.before.label-count.ensures.0 hard.hard-block.ensures
-    count.line-of-one.ensures.same soft.before.first_of.ensures soft.soft-blocks.ensures last.finish.ensures
+    draft-made _ _ _ _ _ _ _ _ map.read_map-m.ensures.same hard.before.label_count-bound.ensures.0 hard.hard_block-h.ensures
+    count.line_of_one-count.ensures.same soft.before.first_of-n.ensures soft.soft_blocks-x.ensures last.finish-line.ensures
 
-pub read-lines-spec : {M : Type 1} → statement M
-read-lines-spec =
+pub read_lines_spec : {M : Type 1} → statement M
+read_lines_spec =
     tie.close
     (tie.spec
     (λ c κs. search rules)
     (λ c κs. search rules)
     (λ c κs. search rules)
-    (λ c. search rules)
     (λ c κs. search rules)
     (λ c κs. search rules)
     (λ c. search rules)

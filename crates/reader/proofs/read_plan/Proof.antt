@@ -5,21 +5,21 @@ use borrow.Author.Rules.{rules}
 use Rattle.reader.proofs.read_plan.Statement.{statement}
 use Rattle.reader.proofs.read_plan.Tie as tie
 
-returns : tie.Need-returns
-returns c = c.refuse.ensures ∙ too_long _ c.before.if1.true
+returns : tie.Need-returns-then-s-gt60000
+returns c = c.refuse.ensures ∙ too_long _ c.before.if-s-gt60000.true
 
-returns-2 : tie.Need-returns-2
+returns-2 : tie.Need-returns-in_default
 returns-2 c =
     let read = c.before.before.before in
-    faultless _ read.before.if1.false _ read.read-lines.ensures _ _ c.enum_told.given.1
+    faultless _ read.before.if-s-gt60000.false _ read.read_lines-draft.ensures _ _ c.enum_told-1.given.1
 
-returns-3 : tie.Need-returns-3
+returns-3 : tie.Need-returns
 returns-3 c =
     let read = c.before.before.before.before.before in
-    c.refuse2.ensures ∙ faulty _ read.before.if1.false _ read.read-lines.ensures _ c.before.before.line.given.1
+    c.refuse-2.ensures ∙ faulty _ read.before.if-s-gt60000.false _ read.read_lines-draft.ensures _ c.before.before.line-1.given.1
 
-pub read-plan-spec : {M : Type 1} → statement M
-read-plan-spec =
+pub read_plan_spec : {M : Type 1} → statement M
+read_plan_spec =
     tie.close
     (tie.spec
     (λ c κs. search rules)

@@ -5,14 +5,14 @@ use Rattle.roadmap.proofs.Charts.{park-marked, park-passed}
 use Rattle.roadmap.proofs.park.Statement.{statement}
 use Rattle.roadmap.proofs.park.Tie as tie
 
-returns : tie.Need-returns
+returns : tie.Need-returns-then-exits-u-eq0
 returns c = let a = c.before.before.args in park-marked a.exits.now a.table.now a.at a.u (omega arith)
 
-returns-2 : tie.Need-returns-2
+returns-2 : tie.Need-returns-else-exits-u-eq0
 returns-2 c = let a = c.before.before.args in park-passed a.exits.now a.table.now a.at a.u (λ e. omega arith)
 
-pub park-spec : {M : Type 1} → statement M
-park-spec =
+pub park_spec : {M : Type 1} → statement M
+park_spec =
     tie.close
     (tie.spec
     (λ c. search rules)

@@ -12,8 +12,8 @@ returns c =
     let s = f.before.before.before.before.before.before.before.before.before in
     let a = s.args in
     decides a.steps.now a.n a.first a.accept a.stem.now a.cycle.now _ (omega (arith, s.requires.1)) s.requires.3 s.requires.4 t.turn.ensures
-    f.follow.result f.follow.ensures c.close_up.result c.close_up.ensures
+    f.follow-set.result f.follow-set.ensures c.close_up.result c.close_up.ensures
 
-pub decide-in-spec : {M : Type 1} → statement M
-decide-in-spec =
+pub decide_in_spec : {M : Type 1} → statement M
+decide_in_spec =
     tie.close (tie.spec (λ c κs. search rules) (λ c κs. search rules) (λ c κs. search rules) (λ c. search rules) (λ c κs. search rules) (λ c. search rules) returns)

@@ -9,30 +9,30 @@ use Rattle.acceptance.proofs.Tabling.{tabled_start}
 use Rattle.acceptance.proofs.narrow.fill.Statement.{statement}
 use Rattle.acceptance.proofs.narrow.fill.Tie as tie
 
-abbrev invariant-loop : tie.invariant-loop
+abbrev invariant-loop : tie.invariant-loop-v
 invariant-loop steps n places sets₀ v₀ sets v = Tabled steps n v 0 sets × (v ≤ places) × (length sets ≡ 32768)
 
-abbrev decreases-loop : tie.decreases-loop
+abbrev decreases-loop : tie.decreases-loop-v
 decreases-loop steps n places sets₀ v₀ sets v = places - v
 
-abbrev entered : tie.At-loop invariant-loop decreases-loop → tie.Start invariant-loop decreases-loop
+abbrev entered : tie.At-loop-v invariant-loop decreases-loop → tie.Start invariant-loop decreases-loop
 entered c = c.before.before
 
-abbrev placed : tie.After-slice-known2 invariant-loop decreases-loop → tie.After-fill-place invariant-loop decreases-loop
+abbrev placed : tie.After-slice_known-in-loop-v-1 invariant-loop decreases-loop → tie.After-fill_place invariant-loop decreases-loop
 placed c = c.before.before
 
-loop-holds : tie.Need-loop-init invariant-loop decreases-loop
+loop-holds : tie.Need-loop-v-init invariant-loop decreases-loop
 loop-holds c =
     let s = c.before in
     let a = s.args in
     (tabled_start a.steps.now a.n a.sets.now, omega arith, s.requires.0)
 
-loop-again : tie.Need-loop-preserved invariant-loop decreases-loop
-loop-again c = let f = (placed c).fill-place in (f.ensures, omega arith, omega (arith, f.kept))
+loop-again : tie.Need-loop-v-preserved invariant-loop decreases-loop
+loop-again c = let f = (placed c).fill_place in (f.ensures, omega arith, omega (arith, f.auto))
 
 returns : tie.Need-returns invariant-loop decreases-loop
 returns c =
-    let l = c.before.loop in
+    let l = c.before.loop-v in
     let all : l.v ≡ (entered c.before).args.places = omega arith in
     rw all at l.invariant.0
 

@@ -11,10 +11,10 @@ returns c =
     let f = e.before.before.before.before in
     let g = f.before.before.before.before in
     let s = g.before.before.before in
-    stored-four s.args.q s.args.n g.put_word.ensures f.put-word2.ensures e.put-word3.ensures d.put-word4.ensures
+    stored-four s.args.q s.args.n g.put_word.ensures f.put_word-2.ensures e.put_word-3.ensures d.put_word-4.ensures
 
-pub put-four-spec : {M : Type 1} → statement M
-put-four-spec =
+pub put_four_spec : {M : Type 1} → statement M
+put_four_spec =
     tie.close
     (tie.spec
     (λ c κs. search rules)

@@ -6,7 +6,7 @@ use mathlib.Core.Path.{refl}
 use Rattle.acceptance.proofs.narrow.put_word.Statement.{statement}
 use Rattle.acceptance.proofs.narrow.put_word.Tie as tie
 
-returns : tie.Need-returns
+returns : tie.Need-returns-then-q-n
 returns c =
     let s = c.before in
     let a = s.args in
@@ -15,8 +15,8 @@ returns c =
       others = λ p h. get_or-set_other a.rows.now a.q p a.word 0 h;
     }
 
-returns-2 : tie.Need-returns-2
-returns-2 c = record { here = λ l. absurd (omega (arith, c.if1.false)); others = λ p h. refl }
+returns-2 : tie.Need-returns-else-q-n
+returns-2 c = record { here = λ l. absurd (omega (arith, c.if-q-n.false)); others = λ p h. refl }
 
-pub put-word-spec : {M : Type 1} → statement M
-put-word-spec = tie.close (tie.spec (λ c. search rules) (λ c. search rules) (λ c. search rules) returns returns-2)
+pub put_word_spec : {M : Type 1} → statement M
+put_word_spec = tie.close (tie.spec (λ c. search rules) (λ c. search rules) (λ c. search rules) returns returns-2)

@@ -11,41 +11,41 @@ use Rattle.acceptance.proofs.Filling.{steps-narrow, filled_put}
 use Rattle.acceptance.proofs.table.fill_row.Statement.{statement}
 use Rattle.acceptance.proofs.table.fill_row.Tie as tie
 
-abbrev invariant-loop : tie.invariant-loop
+abbrev invariant-loop : tie.invariant-loop-q
 invariant-loop a n labels v steps₀ q₀ steps q = Filled (placed a labels) n v q steps × (q ≤ n) × (n ≤ 16) × (length steps ≡ 4096)
 
-abbrev decreases-loop : tie.decreases-loop
+abbrev decreases-loop : tie.decreases-loop-q
 decreases-loop a n labels v steps₀ q₀ steps q = n - q
 
-abbrev entered : tie.At-loop invariant-loop decreases-loop → tie.Start invariant-loop decreases-loop
+abbrev entered : tie.At-loop-q invariant-loop decreases-loop → tie.Start invariant-loop decreases-loop
 entered c = c.before.before
 
-abbrev looped : tie.After-steps-from invariant-loop decreases-loop → tie.In-loop invariant-loop decreases-loop
+abbrev looped : tie.After-steps_from-set invariant-loop decreases-loop → tie.In-loop-q invariant-loop decreases-loop
 looped c = c.before.before
 
-loop-holds : tie.Need-loop-init invariant-loop decreases-loop
+loop-holds : tie.Need-loop-q-init invariant-loop decreases-loop
 loop-holds c =
     let s = c.before in
     (s.requires.4, omega arith, omega arith, s.requires.3)
 
-loop-again : tie.Need-loop-preserved invariant-loop decreases-loop
+loop-again : tie.Need-loop-q-preserved invariant-loop decreases-loop
 loop-again c =
     let turn = looped c in
     let s = entered turn.before in
-    let l = turn.before.loop in
-    let entry = c.steps-from in
-    let small = steps-narrow s.pre.0 _ l.q s.pre.1 entry.ensures in
-    let put = filled_put entry.result l.inv.0 turn.loop-test.taken (omega arith) (omega arith) entry.ensures small in
-    (put, omega arith, l.inv.2, length-set l.steps _ entry.result ∙ l.inv.3)
+    let l = turn.before.loop-q in
+    let entry = c.steps_from-set in
+    let small = steps-narrow s.requires.0 _ l.q s.requires.1 entry.ensures in
+    let put = filled_put entry.result l.invariant.0 turn.loop-q-test.true (omega arith) (omega arith) entry.ensures small in
+    (put, omega arith, l.invariant.2, length-set l.steps _ entry.result ∙ l.invariant.3)
 
 returns : tie.Need-returns invariant-loop decreases-loop
 returns c =
-    let l = c.before.loop in
+    let l = c.before.loop-q in
     let all : l.q ≡ (entered c.before).args.n = omega arith in
     rw all at l.invariant.0
 
-pub fill-row-spec : {M : Type 1} → statement M
-fill-row-spec =
+pub fill_row_spec : {M : Type 1} → statement M
+fill_row_spec =
     tie.close
     (tie.spec
     invariant-loop

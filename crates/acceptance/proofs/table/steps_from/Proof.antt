@@ -10,5 +10,5 @@ returns c =
     let a = s.args in
     steps-own s.requires.0 a.label a.q s.requires.1 c.before.one.ensures.0 c.step_set.ensures.0
 
-pub steps-from-spec : {M : Type 1} → statement M
-steps-from-spec = tie.close (tie.spec (λ c κs. search rules) (λ c κs. search rules) returns)
+pub steps_from_spec : {M : Type 1} → statement M
+steps_from_spec = tie.close (tie.spec (λ c κs. search rules) (λ c κs. search rules) returns)

@@ -4,11 +4,11 @@ use Rattle.acceptance.proofs.Words.{marked-here, marked-not}
 use Rattle.acceptance.proofs.tour.marked.Statement.{statement}
 use Rattle.acceptance.proofs.tour.marked.Tie as tie
 
-returns : tie.Need-returns
-returns c = marked-here c.before.args.word _ c.if1.true
+returns : tie.Need-returns-then-accepting
+returns c = marked-here c.before.args.word _ c.if-accepting.true
 
-returns-2 : tie.Need-returns-2
-returns-2 c = marked-not c.before.args.word _ c.if1.false
+returns-2 : tie.Need-returns
+returns-2 c = marked-not c.before.args.word _ c.if-accepting.false
 
-pub marked-spec : {M : Type 1} → statement M
-marked-spec = tie.close (tie.spec (λ c. search rules) returns returns-2)
+pub marked_spec : {M : Type 1} → statement M
+marked_spec = tie.close (tie.spec (λ c. search rules) returns returns-2)

@@ -5,11 +5,11 @@ use Rattle.acceptance.proofs.Links.{pass-take, pass-leave}
 use Rattle.acceptance.proofs.tour.passed.Statement.{statement}
 use Rattle.acceptance.proofs.tour.passed.Tie as tie
 
-returns : tie.Need-returns
-returns c = let h = c.before in let a = h.before.args in pass-take a.word a.k a.mid (sym h.has.ensures ∙ c.if1.true)
+returns : tie.Need-returns-then-has
+returns c = let h = c.before in let a = h.before.args in pass-take a.word a.k a.mid (sym h.has.ensures ∙ c.if-has.true)
 
-returns-2 : tie.Need-returns-2
-returns-2 c = let h = c.before in let a = h.before.args in pass-leave a.word a.k a.mid (sym h.has.ensures ∙ c.if1.false)
+returns-2 : tie.Need-returns
+returns-2 c = let h = c.before in let a = h.before.args in pass-leave a.word a.k a.mid (sym h.has.ensures ∙ c.if-has.false)
 
-pub passed-spec : {M : Type 1} → statement M
-passed-spec = tie.close (tie.spec (λ c κs. search rules) returns returns-2)
+pub passed_spec : {M : Type 1} → statement M
+passed_spec = tie.close (tie.spec (λ c κs. search rules) returns returns-2)

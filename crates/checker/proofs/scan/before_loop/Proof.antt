@@ -7,17 +7,17 @@ use lib.ListN.{length}
 use Rattle.checker.proofs.scan.before_loop.Statement.{statement}
 use Rattle.checker.proofs.scan.before_loop.Tie as tie
 
-abbrev entered : tie.After-shared-slice-known → tie.Start
+abbrev entered : tie.After-shared_slice_known-1 → tie.Start
 entered c = c.before.before
 
-returns : tie.Need-returns
-returns c = rw (eq-eqb (length c.before.args.stem.now) 0 c.if1.true)
+returns : tie.Need-returns-then-n-eq0
+returns c = rw (eq-eqb (length c.before.args.stem.now) 0 c.if-n-eq0.true)
 
-cast-result : tie.Need-overflow-cast-result
-cast-result c = omega (arith, c.shared-slice-known.given (length (entered c).args.stem.now - 1))
+cast-result : tie.Need-overflow_cast-result
+cast-result c = omega (arith, c.shared_slice_known-1.given (length (entered c).args.stem.now - 1))
 
-returns-2 : tie.Need-returns-2
-returns-2 c = rw (ne_eqb (length (entered c).args.stem.now) 0 c.before.if1.false)
+returns-2 : tie.Need-returns
+returns-2 c = rw (ne_eqb (length (entered c).args.stem.now) 0 c.before.if-n-eq0.false)
 
-pub before-loop-spec : {M : Type 1} → statement M
-before-loop-spec = tie.close (tie.spec returns (λ c. search rules) (λ c. search rules) cast-result returns-2)
+pub before_loop_spec : {M : Type 1} → statement M
+before_loop_spec = tie.close (tie.spec returns (λ c. search rules) (λ c. search rules) cast-result returns-2)

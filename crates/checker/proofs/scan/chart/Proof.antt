@@ -5,10 +5,10 @@ use Rattle.checker.proofs.Roads.{filled-table}
 use Rattle.checker.proofs.scan.chart.Statement.{statement}
 use Rattle.checker.proofs.scan.chart.Tie as tie
 
-abbrev entered : tie.After-chart-arg → tie.Start
+abbrev entered : tie.After-chart-arg-1 → tie.Start
 entered c = c.before.before
 
-abbrev filled : tie.After-struct-known → tie.After-chart
+abbrev filled : tie.After-struct_known-1 → tie.After-chart
 filled c = c.before.before.before
 
 chart-requires : tie.Need-chart-requires
@@ -18,10 +18,10 @@ returns : tie.Need-returns
 returns c =
     let f = filled c in
     let s = entered f.before in
-    filled-table s.args.p s.args.roads.now _ s.pre.0 s.pre.1 s.pre.2 f.chart.ensures
+    filled-table s.args.p s.args.roads.now _ s.requires.0 s.requires.1 s.requires.2 f.chart.ensures
 
-pub chart-spec : {M : Type 1} → statement M
-chart-spec =
+pub chart_spec : {M : Type 1} → statement M
+chart_spec =
     tie.close
     (tie.spec
     chart-requires

@@ -9,56 +9,56 @@ use Rattle.checker.proofs.Scans.{table-past, table-shut, table-leads}
 use Rattle.checker.proofs.scan.driven.Statement.{statement}
 use Rattle.checker.proofs.scan.driven.Tie as tie
 
-abbrev invariant-loop : tie.invariant-loop
+abbrev invariant-loop : tie.invariant-loop-i
 invariant-loop roads places from list u₀ i₀ u i = Driving (on_table roads places) from list u i × (u ≤ 128)
 
-abbrev decreases-loop : tie.decreases-loop
+abbrev decreases-loop : tie.decreases-loop-i
 decreases-loop roads places from list u₀ i₀ u i = length list - i
 
-abbrev entered : tie.At-loop invariant-loop decreases-loop → tie.Start invariant-loop decreases-loop
+abbrev entered : tie.At-loop-i invariant-loop decreases-loop → tie.Start invariant-loop decreases-loop
 entered c = c.before
 
-abbrev turn : tie.After-shared-slice-known invariant-loop decreases-loop → tie.At-loop invariant-loop decreases-loop
+abbrev turn : tie.After-shared_slice_known-1 invariant-loop decreases-loop → tie.At-loop-i invariant-loop decreases-loop
 turn c = c.before.before
 
-abbrev known : tie.After-shared-slice-known2 invariant-loop decreases-loop → tie.Else1 invariant-loop decreases-loop
+abbrev known : tie.After-shared_slice_known-in-loop-i-1 invariant-loop decreases-loop → tie.Else-places-v invariant-loop decreases-loop
 known c = c.before
 
-loop-holds : tie.Need-loop-init invariant-loop decreases-loop
+loop-holds : tie.Need-loop-i-init invariant-loop decreases-loop
 loop-holds c = let a = c.args in (driving-start (on_table a.roads.now a.places) a.from a.list.now, c.requires.2)
 
-cast-v : tie.Need-overflow-cast-v invariant-loop decreases-loop
-cast-v c = omega (arith, c.shared-slice-known.given (turn c).loop.i)
+cast-v : tie.Need-overflow_cast-v invariant-loop decreases-loop
+cast-v c = omega (arith, c.shared_slice_known-1.given (turn c).loop-i.i)
 
-returns : tie.Need-returns invariant-loop decreases-loop
+returns : tie.Need-returns-then-places-v invariant-loop decreases-loop
 returns c =
     let at = turn c.before in
     let a = (entered at).args in
-    let l = at.loop in
-    driving-stop l.inv.0 (omega arith) (table-past a.roads.now a.places l.u (get_or a.list.now l.i 0) (omega arith))
+    let l = at.loop-i in
+    driving-stop l.invariant.0 (omega arith) (table-past a.roads.now a.places l.u (get_or a.list.now l.i 0) (omega arith))
 
-returns-2 : tie.Need-returns-2 invariant-loop decreases-loop
+returns-2 : tie.Need-returns-then-roads-u-ne1 invariant-loop decreases-loop
 returns-2 c =
     let e = known c.before in
     let at = turn e.before in
     let a = (entered at).args in
-    let l = at.loop in
-    driving-stop l.inv.0 (omega arith) (table-shut a.roads.now a.places l.u (get_or a.list.now l.i 0) (omega arith) c.if2.true)
+    let l = at.loop-i in
+    driving-stop l.invariant.0 (omega arith) (table-shut a.roads.now a.places l.u (get_or a.list.now l.i 0) (omega arith) c.if-roads-u-ne1.true)
 
-loop-again : tie.Need-loop-preserved invariant-loop decreases-loop
+loop-again : tie.Need-loop-i-preserved invariant-loop decreases-loop
 loop-again c =
     let e = known c.before in
     let at = turn e.before in
     let a = (entered at).args in
-    let l = at.loop in
-    let leads = table-leads a.roads.now a.places l.u (get_or a.list.now l.i 0) (omega arith) c.if2.false in
-    (driving-step l.inv.0 (omega arith) leads, omega arith)
+    let l = at.loop-i in
+    let leads = table-leads a.roads.now a.places l.u (get_or a.list.now l.i 0) (omega arith) c.if-roads-u-ne1.false in
+    (driving-step l.invariant.0 (omega arith) leads, omega arith)
 
-returns-3 : tie.Need-returns-3 invariant-loop decreases-loop
-returns-3 c = driving-end c.before.loop.invariant.0 (omega arith)
+returns-3 : tie.Need-returns invariant-loop decreases-loop
+returns-3 c = driving-end c.before.loop-i.invariant.0 (omega arith)
 
-pub driven-spec : {M : Type 1} → statement M
-driven-spec =
+pub driven_spec : {M : Type 1} → statement M
+driven_spec =
     tie.close
     (tie.spec
     invariant-loop

@@ -19,48 +19,48 @@ record Grown (rules n₀ : ℕ) (soft : List Automaton) (n i : ℕ) : Type 0 whe
   pub small : n ≤ 2049
   pub held : n ≡ min (n₀ * product_below i (λ k. (get_or soft k no_automaton).states + 1)) 2049
 
-abbrev invariant-loop : tie.invariant-loop
+abbrev invariant-loop : tie.invariant-loop-i
 invariant-loop rules n₀ soft i₀ n i = Grown rules n₀ soft n i
 
-abbrev decreases-loop : tie.decreases-loop
+abbrev decreases-loop : tie.decreases-loop-i
 decreases-loop rules n₀ soft i₀ n i = rules - i
 
-loop-holds : tie.Need-loop-init invariant-loop decreases-loop
+loop-holds : tie.Need-loop-i-init invariant-loop decreases-loop
 loop-holds c =
     let start = c.before in
     record {
       within = omega arith;
       room = start.before.before.before.before.before.before.requires;
-      small = start.grown2.ensures.1;
-      held = product-none 2049 _ _ start.grown2.ensures.1;
+      small = start.grown-n.ensures.1;
+      held = product-none 2049 _ _ start.grown-n.ensures.1;
     }
 
-loop-again : tie.Need-loop-preserved invariant-loop decreases-loop
+loop-again : tie.Need-loop-i-preserved invariant-loop decreases-loop
 loop-again c =
-    let l = c.before.before.before.before.loop in
+    let l = c.before.before.before.before.loop-i in
     let p = c.before.before.before.before.before.before.before.before.before.before.before.before.args.plan in
     record {
       within = omega arith;
       room = l.invariant.room;
-      small = c.grown3.ensures.1;
+      small = c.grown-n-in-loop-i.ensures.1;
       held = product-more 2049 _ _ _ _ _ _ l.invariant.held
-          (ap (λ (q : ℕ). q + 1) (c.before.wide3.ensures.0 ∙ states-default p.soft l.i _ no_automaton refl)) c.grown3.ensures.0;
+          (ap (λ (q : ℕ). q + 1) (c.before.wide-in-loop-i.ensures.0 ∙ states-default p.soft-1 l.i _ no_automaton refl)) c.grown-n-in-loop-i.ensures.0;
     }
 
 returns : tie.Need-returns invariant-loop decreases-loop
 returns c =
-    let l = c.before.loop in
+    let l = c.before.loop-i in
     let hard = c.before.before.before in
     let places = hard.before.before in
     let p = places.before.before.before.before.args.plan in
-    let e : l.i ≡ p.rules = omega (arith, l.invariant.within, c.loop-test.false) in
-    size-whole 2049 p places.grown.result hard.grown2.result l.n
+    let e : l.i ≡ p.rules = omega (arith, l.invariant.within, c.loop-i-test.false) in
+    size-whole 2049 p places.grown.result hard.grown-n.result l.n
     (places.grown.ensures.0 ∙ ap (λ (x : ℕ). min (1 * x) 2049) places.before.wide.ensures.0)
-    (hard.grown2.ensures.0 ∙ ap (λ (x : ℕ). min (places.grown.result * x) 2049) hard.before.wide2.ensures.0)
-    (l.invariant.held ∙ ap (λ (k : ℕ). min (hard.grown2.result * product_below k (λ i. (soft p i).states + 1)) 2049) e)
+    (hard.grown-n.ensures.0 ∙ ap (λ (x : ℕ). min (places.grown.result * x) 2049) hard.before.wide-2.ensures.0)
+    (l.invariant.held ∙ ap (λ (k : ℕ). min (hard.grown-n.result * product_below k (λ i. (soft p i).states + 1)) 2049) e)
 
-pub held-size-spec : {M : Type 1} → statement M
-held-size-spec =
+pub held_size_spec : {M : Type 1} → statement M
+held_size_spec =
     tie.close
     (tie.spec
     invariant-loop

@@ -5,7 +5,7 @@ use Rattle.plan.proofs.size.size_of.Statement.{statement}
 use Rattle.plan.proofs.size.size_of.Tie as tie
 
 returns : tie.Need-returns
-returns c = held-sized _ _ c.held-size.ensures
+returns c = held-sized _ _ c.held_size-nodes.ensures
 
-pub size-of-spec : {M : Type 1} → statement M
-size-of-spec = tie.close (tie.spec (λ c κs. search rules) returns)
+pub size_of_spec : {M : Type 1} → statement M
+size_of_spec = tie.close (tie.spec (λ c κs. search rules) returns)

@@ -5,7 +5,7 @@ use Rattle.reader.proofs.block.automaton_block.Statement.{statement}
 use Rattle.reader.proofs.block.automaton_block.Tie as tie
 
 -- behind the last line, and before the parts are put together
-abbrev read : tie.After-first-of3 → tie.After-move-block
+abbrev read : tie.After-first_of-2 → tie.After-move_block-x
 read c = c.before.before.before.before.before.before.before
 
 returns : tie.Need-returns
@@ -14,19 +14,16 @@ returns c =
     let count = move.before.before in
     let accept = count.before.before in
     let first = accept.before.before.before in
-    automaton-made _ _ _ _ _ _ _ _ _ _ _ _ first.line-of-one.ensures.same accept.before.power.ensures.0 accept.line-of-one2.ensures.same
-    count.line-of-one3.ensures.same move.before.first_of.ensures move.move-block.ensures c.before.first-of2.ensures c.first-of3.ensures
+    automaton-made _ _ _ _ _ _ _ _ _ _ _ _ first.line_of_one-first.ensures.same accept.before.power.ensures.0 accept.line_of_one-accept.ensures.same
+    count.line_of_one-count.ensures.same move.before.first_of-n.ensures move.move_block-x.ensures c.before.first_of.ensures c.first_of-2.ensures
 
-pub automaton-block-spec : {M : Type 1} → statement M
-automaton-block-spec =
+pub automaton_block_spec : {M : Type 1} → statement M
+automaton_block_spec =
     tie.close
     (tie.spec
-    (λ c. search rules)
-    (λ c κs. search rules)
-    (λ c. search rules)
     (λ c κs. search rules)
     (λ c κs. search rules)
-    (λ c. search rules)
+    (λ c κs. search rules)
     (λ c κs. search rules)
     (λ c κs. search rules)
     (λ c. search rules)

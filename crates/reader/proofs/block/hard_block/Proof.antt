@@ -6,13 +6,12 @@ use Rattle.reader.proofs.block.hard_block.Tie as tie
 
 returns : tie.Need-returns
 unfolding hard_block
-returns c = rw (c.automaton-block.ensures, c.before.first_of.ensures, c.before.before.line-of-one.ensures.same)
+returns c = rw (c.automaton_block.ensures, c.before.first_of.ensures, c.before.before.line_of_one-states.ensures.same)
 
-pub hard-block-spec : {M : Type 1} → statement M
-hard-block-spec =
+pub hard_block_spec : {M : Type 1} → statement M
+hard_block_spec =
     tie.close
     (tie.spec
-    (λ c. search rules)
     (λ c κs. search rules)
     (λ c κs. search rules)
     (λ c κs. search rules)

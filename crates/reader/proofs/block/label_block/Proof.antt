@@ -17,37 +17,36 @@ record Read (s : List ℕ) (n bound : ℕ) (prior line : Line) (labels : List �
   pub bytes : bound ≤ 256
   pub same : label_block s prior n bound ≡ rest n (label_step s bound) i (labels_in line labels)
 
-abbrev invariant-loop : tie.invariant-loop
+abbrev invariant-loop : tie.invariant-loop-i
 invariant-loop s n bound line₀ labels₀ i₀ t8 line labels i = Read s n bound line₀ line labels i
 
-abbrev decreases-loop : tie.decreases-loop
+abbrev decreases-loop : tie.decreases-loop-i
 decreases-loop s n bound line₀ labels₀ i₀ t8 line labels i = n - i
 
-loop-holds : tie.Need-loop-init invariant-loop decreases-loop
+loop-holds : tie.Need-loop-i-init invariant-loop decreases-loop
 loop-holds c = record { within = omega arith; room = search rules; bytes = search rules; same = labels-start _ _ _ _ }
 
-loop-again : tie.Need-loop-preserved invariant-loop decreases-loop
+loop-again : tie.Need-loop-i-preserved invariant-loop decreases-loop
 loop-again c =
-    let read = c.before in let turn = read.before.before in let l = turn.before.loop in
+    let read = c.before in let turn = read.before.before in let l = turn.before.loop-i in
     record {
       within = omega arith;
       room = l.invariant.room;
       bytes = l.invariant.bytes;
-      same = rest-step _ _ _ _ _ l.invariant.same turn.loop-test.true _
-          (label-step _ _ _ _ _ l.labels _ read.line-of-one.ensures.same c.first_of.ensures);
+      same = rest-step _ _ _ _ _ l.invariant.same turn.loop-i-test.true _
+          (label-step _ _ _ _ _ l.labels _ read.line_of_one-line.ensures.same c.first_of.ensures);
     }
 
 returns : tie.Need-returns invariant-loop decreases-loop
-returns c = rest_end _ _ _ _ _ c.before.loop.invariant.same c.loop-test.false
+returns c = rest_end _ _ _ _ _ c.before.loop-i.invariant.same c.loop-i-test.false
 
-pub label-block-spec : {M : Type 1} → statement M
-label-block-spec =
+pub label_block_spec : {M : Type 1} → statement M
+label_block_spec =
     tie.close
     (tie.spec
     invariant-loop
     decreases-loop
     loop-holds
-    (λ c. search rules)
     (λ c κs. search rules)
     (λ c κs. search rules)
     (λ c. search rules)

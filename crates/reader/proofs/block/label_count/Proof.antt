@@ -12,5 +12,5 @@ returns c =
     let k : 2 ^ c.before.args.m ≤ 256 = h in
     (c.power.ensures.0, rw c.power.ensures.0 k)
 
-pub label-count-spec : {M : Type 1} → statement M
-label-count-spec = tie.close (tie.spec (λ c κs. search rules) returns)
+pub label_count_spec : {M : Type 1} → statement M
+label_count_spec = tie.close (tie.spec (λ c κs. search rules) returns)

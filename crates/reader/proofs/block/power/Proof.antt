@@ -16,5 +16,5 @@ returns c =
     let z : 1 * 2 ^ m % 4294967296 ≡ 2 ^ m = rw e (mod-eq_of_lt (omega arith)) in
     (z, rw z k)
 
-pub power-spec : {M : Type 1} → statement M
-power-spec = tie.close (tie.spec (λ c. search rules) returns)
+pub power_spec : {M : Type 1} → statement M
+power_spec = tie.close (tie.spec (λ c. search rules) returns)

@@ -28,20 +28,20 @@ record Read (s : List ℕ) (n bound : ℕ) (prior line : Line) (from to pairs : 
   pub noted : good line ≡ true → Noted pairs (earlier (roads_in line from to) i)
   pub same : road_block s prior n bound ≡ rest n (road_step s bound) i (roads_in line from to)
 
-abbrev invariant-loop : tie.invariant-loop
+abbrev invariant-loop : tie.invariant-loop-i
 invariant-loop s n bound line₀ from₀ to₀ pairs₀ i₀ t11 line from to pairs i = Read s n bound line₀ line from to pairs i
 
-abbrev decreases-loop : tie.decreases-loop
+abbrev decreases-loop : tie.decreases-loop-i
 decreases-loop s n bound line₀ from₀ to₀ pairs₀ i₀ t11 line from to pairs i = n - i
 
 -- the places that the answers refer to: a turn, and where its line was read
-abbrev read : tie.After-numbers-of invariant-loop decreases-loop → tie.After-road-line invariant-loop decreases-loop
+abbrev read : tie.After-numbers_of-xs invariant-loop decreases-loop → tie.After-road_line-line invariant-loop decreases-loop
 read n = n.before.before
 
-abbrev turn : tie.After-numbers-of invariant-loop decreases-loop → tie.In-loop invariant-loop decreases-loop
+abbrev turn : tie.After-numbers_of-xs invariant-loop decreases-loop → tie.In-loop-i invariant-loop decreases-loop
 turn n = (read n).before.before.before
 
-loop-holds : tie.Need-loop-init invariant-loop decreases-loop
+loop-holds : tie.Need-loop-i-init invariant-loop decreases-loop
 loop-holds c = record {
   within = omega arith;
   room = search rules;
@@ -53,42 +53,41 @@ loop-holds c = record {
   same = roads-start _ _ _ _;
 }
 
-cast-from : tie.Need-overflow-cast-from invariant-loop decreases-loop
+cast-from : tie.Need-overflow_cast-from invariant-loop decreases-loop
 cast-from c =
     let n = c.before in
-    record { fits = byte (λ xs. xs.first) _ _ _ n.Numbers-of.ensures (read n).road-line.ensures.first-low (omega (arith, (turn n).before.loop.invariant.bytes)) }
+    record { fits = byte (λ xs. xs.first) _ _ _ n.Numbers-of.ensures (read n).road_line-line.ensures.first-low (omega (arith, (turn n).before.loop-i.invariant.bytes)) }
 
-cast-to : tie.Need-overflow-cast-to invariant-loop decreases-loop
+cast-to : tie.Need-overflow_cast-to invariant-loop decreases-loop
 cast-to c =
     let n = c.before.before in
-    record { fits = byte (λ xs. xs.second) _ _ _ n.Numbers-of.ensures (read n).road-line.ensures.second-low (omega (arith, (turn n).before.loop.invariant.bytes)) }
+    record { fits = byte (λ xs. xs.second) _ _ _ n.Numbers-of.ensures (read n).road_line-line.ensures.second-low (omega (arith, (turn n).before.loop-i.invariant.bytes)) }
 
-loop-again : tie.Need-loop-preserved invariant-loop decreases-loop
+loop-again : tie.Need-loop-i-preserved invariant-loop decreases-loop
 loop-again c =
-    let n = c.before.before in let l = (turn n).before.loop in let r = (read n).road-line.ensures in
+    let n = c.before.before in let l = (turn n).before.loop-i in let r = (read n).road_line-line.ensures in
     record {
       within = omega arith;
-      room = l.inv.room;
-      bytes = l.inv.bytes;
+      room = l.invariant.room;
+      bytes = l.invariant.bytes;
       from-room = search rules;
       to_room = search rules;
       pairs-room = search rules;
-      noted = noted-after _ _ _ _ _ _ l.from l.to _ _ _ _ l.inv.bytes l.inv.noted l.inv.pairs-room (omega arith) (omega arith) r n.Numbers-of.ensures;
-      same = rest-step _ _ _ _ _ l.inv.same (turn n).loop-test.true _
-          (road-step _ _ _ _ _ l.from l.to _ (r.same ∙ road-by _ _ _ _ _ _ l.inv.bytes l.inv.noted) n.Numbers-of.ensures);
+      noted = noted-after _ _ _ _ _ _ l.from l.to _ _ _ _ l.invariant.bytes l.invariant.noted l.invariant.pairs-room (omega arith) (omega arith) r n.Numbers-of.ensures;
+      same = rest-step _ _ _ _ _ l.invariant.same (turn n).loop-i-test.true _
+          (road-step _ _ _ _ _ l.from l.to _ (r.same ∙ road-by _ _ _ _ _ _ l.invariant.bytes l.invariant.noted) n.Numbers-of.ensures);
     }
 
 returns : tie.Need-returns invariant-loop decreases-loop
-returns c = rest_end _ _ _ _ _ c.before.loop.invariant.same c.loop-test.false
+returns c = rest_end _ _ _ _ _ c.before.loop-i.invariant.same c.loop-i-test.false
 
-pub road-block-spec : {M : Type 1} → statement M
-road-block-spec =
+pub road_block_spec : {M : Type 1} → statement M
+road_block_spec =
     tie.close
     (tie.spec
     invariant-loop
     decreases-loop
     loop-holds
-    (λ c. search rules)
     (λ c. search rules)
     (λ c κs. search rules)
     (λ c κs. search rules)

@@ -9,16 +9,14 @@ returns c =
     let block = c.before.before in
     let weight = block.before.before in
     let states = weight.before.before in
-    soft-made _ _ _ _ _ _ _ _ states.line-of-one.ensures.same weight.line-of-one2.ensures.same block.before.first_of.ensures
-    block.automaton-block.ensures c.first-of2.ensures
+    soft-made _ _ _ _ _ _ _ _ states.line_of_one-states.ensures.same weight.line_of_one-weight.ensures.same block.before.first_of.ensures
+    block.automaton_block-x.ensures c.first_of-2.ensures
 
-pub soft-block-spec : {M : Type 1} → statement M
-soft-block-spec =
+pub soft_block_spec : {M : Type 1} → statement M
+soft_block_spec =
     tie.close
     (tie.spec
-    (λ c. search rules)
     (λ c κs. search rules)
-    (λ c. search rules)
     (λ c κs. search rules)
     (λ c κs. search rules)
     (λ c κs. search rules)

@@ -18,31 +18,31 @@ record Read (s : List ℕ) (n labels : ℕ) (prior line : Line) (soft : List Aut
   pub bytes : labels ≤ 256
   pub same : soft_blocks s prior n labels ≡ rest n (soft_step s labels) i (softs_in line soft weights)
 
-abbrev invariant-loop : tie.invariant-loop
+abbrev invariant-loop : tie.invariant-loop-i
 invariant-loop s n labels line₀ soft₀ weights₀ i₀ line soft weights i = Read s n labels line₀ line soft weights i
 
-abbrev decreases-loop : tie.decreases-loop
+abbrev decreases-loop : tie.decreases-loop-i
 decreases-loop s n labels line₀ soft₀ weights₀ i₀ line soft weights i = n - i
 
-loop-holds : tie.Need-loop-init invariant-loop decreases-loop
+loop-holds : tie.Need-loop-i-init invariant-loop decreases-loop
 loop-holds c =
-    record { within = omega arith; room = c.before.before.requires.0; bytes = c.before.before.requires.1; same = softs-start _ _ _ _ _ c.no-automaton.ensures }
+    record { within = omega arith; room = c.before.before.requires.0; bytes = c.before.before.requires.1; same = softs-start _ _ _ _ _ c.no_automaton-none.ensures }
 
-loop-again : tie.Need-loop-preserved invariant-loop decreases-loop
+loop-again : tie.Need-loop-i-preserved invariant-loop decreases-loop
 loop-again c =
-    let l = c.before.before.before.loop in
+    let l = c.before.before.before.loop-i in
     record {
       within = omega arith;
       room = l.invariant.room;
       bytes = l.invariant.bytes;
-      same = rest-step _ _ _ _ _ l.invariant.same c.before.before.loop-test.true _ (soft-step _ _ _ _ l.soft l.weights _ c.before.soft-block.ensures);
+      same = rest-step _ _ _ _ _ l.invariant.same c.before.before.loop-i-test.true _ (soft-step _ _ _ _ l.soft l.weights _ c.before.soft_block-b.ensures);
     }
 
 returns : tie.Need-returns invariant-loop decreases-loop
-returns c = rest_end _ _ _ _ _ c.before.loop.invariant.same c.loop-test.false
+returns c = rest_end _ _ _ _ _ c.before.loop-i.invariant.same c.loop-i-test.false
 
-pub soft-blocks-spec : {M : Type 1} → statement M
-soft-blocks-spec =
+pub soft_blocks_spec : {M : Type 1} → statement M
+soft_blocks_spec =
     tie.close
     (tie.spec
     invariant-loop

@@ -6,45 +6,45 @@ use Rattle.reader.proofs.line.move_line.Statement.{statement}
 use Rattle.reader.proofs.line.move_line.Tie as tie
 
 -- the places that the answers refer to: where the line begins, and where its last number was read
-abbrev opened : tie.After-key-at → tie.After-prior
+abbrev opened : tie.After-key_at → tie.In-Numbers-2
 opened k = k.before.before
 
-abbrev start : tie.After-key-at → tie.Start
+abbrev start : tie.After-key_at → tie.Start
 start k = (opened k).before.before.before.before
 
-returns : tie.Need-returns
-returns c = move-is _ _ _ _ _ _ (move-fault _ _ _ _ c.enum_told.given.1 _ _)
+returns : tie.Need-returns-in_default
+returns c = move-is _ _ _ _ _ _ (move-fault _ _ _ _ c.enum_told-1.given.1 _ _)
 
-returns-2 : tie.Need-returns-2
+returns-2 : tie.Need-returns-in_default-last
 returns-2 c =
     let l = c.before.before.before in
     let e = l.before in let g = e.before in let d = g.before in let z = d.before in let b = z.before in let a = b.before in let k = a.before in
-    let ha = first-held _ _ _ _ _ k.key-at.ensures a.next-number.ensures in
-    let hb = next-held _ _ _ _ _ ha b.next-number2.ensures in
-    let hz = next-held _ _ _ _ _ hb z.next-number3.ensures in
-    let hd = next-held _ _ _ _ _ hz d.next-number4.ensures in
-    let hg = else-held _ _ _ _ _ _ _ hd hz g.else-number.ensures in
-    let hl = either_held _ _ _ _ _ hd (next-held _ _ _ _ _ hg e.next-number5.ensures) l.either.ensures in
-    rw c.bad-form.ensures (move-is _ _ _ _ _ _ (move-bad _ _ _ _ _ (opened k).prior.given.1 _ _ (held-bad _ _ hl c.before.enum-told2.given.1)))
+    let ha = first-held _ _ _ _ _ k.key_at.ensures a.next_number-a.ensures in
+    let hb = next-held _ _ _ _ _ ha b.next_number-b.ensures in
+    let hz = next-held _ _ _ _ _ hb z.next_number-c.ensures in
+    let hd = next-held _ _ _ _ _ hz d.next_number-d.ensures in
+    let hg = else-held _ _ _ _ _ _ _ hd hz g.else_number-any.ensures in
+    let hl = either_held _ _ _ _ _ hd (next-held _ _ _ _ _ hg e.next_number.ensures) l.either-last.ensures in
+    rw c.bad_form.ensures (move-is _ _ _ _ _ _ (move-bad _ _ _ _ _ (opened k).prior-1.given.1 _ _ (held-bad _ _ hl c.before.enum_told-in_default-last-1.given.1)))
 
-returns-3 : tie.Need-returns-3
+returns-3 : tie.Need-returns
 returns-3 c =
     let v = c.before.before in let n = v.before.before.before.before in let l = n.before.before.before in
     let e = l.before in let g = e.before in let d = g.before in let z = d.before in let b = z.before in let a = b.before in let k = a.before in
-    let ha = first-held _ _ _ _ _ k.key-at.ensures a.next-number.ensures in
-    let hb = next-held _ _ _ _ _ ha b.next-number2.ensures in
-    let hz = next-held _ _ _ _ _ hb z.next-number3.ensures in
-    let hd = next-held _ _ _ _ _ hz d.next-number4.ensures in
-    let hg = else-held _ _ _ _ _ _ _ hd hz g.else-number.ensures in
-    let hl = either_held _ _ _ _ _ hd (next-held _ _ _ _ _ hg e.next-number5.ensures) l.either.ensures in
-    move-is _ _ _ _ _ _ (rw (c.judged.ensures, c.before.move-fits.ensures)
-    (move-good _ _ _ _ _ (opened k).prior.given.1 _ _ _ _ _ _ _ _ (start k).requires.0 (start k).requires.1
-    (held-value _ _ _ ha v.before.before.before.value_of_lem.ensures) (held-value _ _ _ hb v.before.before.value-of2.ensures)
-    (held-value _ _ _ hz v.before.value-of3.ensures) (held-value _ _ _ hg v.value-of4.ensures)
-    (held-told _ _ hl _ _ n.before.last.given.1)))
+    let ha = first-held _ _ _ _ _ k.key_at.ensures a.next_number-a.ensures in
+    let hb = next-held _ _ _ _ _ ha b.next_number-b.ensures in
+    let hz = next-held _ _ _ _ _ hb z.next_number-c.ensures in
+    let hd = next-held _ _ _ _ _ hz d.next_number-d.ensures in
+    let hg = else-held _ _ _ _ _ _ _ hd hz g.else_number-any.ensures in
+    let hl = either_held _ _ _ _ _ hd (next-held _ _ _ _ _ hg e.next_number.ensures) l.either-last.ensures in
+    move-is _ _ _ _ _ _ (rw (c.judged.ensures, c.before.move_fits.ensures)
+    (move-good _ _ _ _ _ (opened k).prior-1.given.1 _ _ _ _ _ _ _ _ (start k).requires.0 (start k).requires.1
+    (held-value _ _ _ ha v.before.before.before.value_of_lem.ensures) (held-value _ _ _ hb v.before.before.value_of-2.ensures)
+    (held-value _ _ _ hz v.before.value_of-3.ensures) (held-value _ _ _ hg v.value_of-4.ensures)
+    (held-told _ _ hl _ _ n.before.last-1.given.1)))
 
-pub move-line-spec : {M : Type 1} → statement M
-move-line-spec =
+pub move_line_spec : {M : Type 1} → statement M
+move_line_spec =
     tie.close
     (tie.spec
     (λ c. search rules)

@@ -15,32 +15,27 @@ returns c =
     let marks = places.before.before in
     let tour = marks.before.before in
     record {
-      same = map-made _ _ _ _ _ _ _ _ _ _ _ _ _ _ tour.before.before.top.ensures tour.line-of-one.ensures.same marks.line-of-one2.ensures.same
-          places.line-of-one3.ensures.same label.before.before.before.first_of.ensures label.before.before.first-of2.ensures
-          label.before.label-count.ensures.0 label.label-block.ensures start.line-of-one4.ensures.same count.line-of-one5.ensures.same
-          road.before.first-of3.ensures road.road-block.ensures c.first-of4.ensures;
-      marks = omega (arith, label.before.before.before.first_of.ensures, marks.line-of-one2.ensures.first-low);
+      same = map-made _ _ _ _ _ _ _ _ _ _ _ _ _ _ tour.before.before.top.ensures tour.line_of_one-tour.ensures.same marks.line_of_one-marks.ensures.same
+          places.line_of_one-places.ensures.same label.before.before.before.first_of-m.ensures label.before.before.first_of-p.ensures
+          label.before.label_count.ensures.0 label.label_block-x.ensures start.line_of_one-start.ensures.same count.line_of_one-count.ensures.same
+          road.before.first_of-n.ensures road.road_block-y.ensures c.first_of.ensures;
+      marks = omega (arith, label.before.before.before.first_of-m.ensures, marks.line_of_one-marks.ensures.first-low);
     }
 
-pub read-map-spec : {M : Type 1} → statement M
-read-map-spec =
+pub read_map_spec : {M : Type 1} → statement M
+read_map_spec =
     tie.close
     (tie.spec
     (λ c κs. search rules)
-    (λ c. search rules)
     (λ c κs. search rules)
-    (λ c. search rules)
     (λ c κs. search rules)
-    (λ c. search rules)
     (λ c κs. search rules)
     (λ c κs. search rules)
     (λ c κs. search rules)
     (λ c. search rules)
     (λ c κs. search rules)
     (λ c κs. search rules)
-    (λ c. search rules)
     (λ c κs. search rules)
-    (λ c. search rules)
     (λ c κs. search rules)
     (λ c κs. search rules)
     (λ c. search rules)

@@ -6,8 +6,8 @@ use Rattle.reader.proofs.pairs.note.Tie as tie
 returns : tie.Need-returns
 returns c = rw c.one.ensures.0
 
-pub note-spec : {M : Type 1} → statement M
-note-spec =
+pub note_spec : {M : Type 1} → statement M
+note_spec =
     tie.close
     (tie.spec
     (λ c. search rules)

@@ -13,8 +13,8 @@ returns c =
     let p = c.before.requires in
     rw (shift_one (a.b % 64) (omega arith)) (gains-single a.words.now a.a a.b p.0 p.1 p.2)
 
-pub add-road-spec : {M : Type 1} → statement M
-add-road-spec =
+pub add_road_spec : {M : Type 1} → statement M
+add_road_spec =
     tie.close
     (tie.spec
     (λ c. search rules)

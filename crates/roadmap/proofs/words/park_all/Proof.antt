@@ -8,22 +8,22 @@ use Rattle.roadmap.proofs.Gains.{Growing, bare-same, parked-start, parked-next}
 use Rattle.roadmap.proofs.words.park_all.Statement.{statement}
 use Rattle.roadmap.proofs.words.park_all.Tie as tie
 
-abbrev invariant-loop : tie.invariant-loop
+abbrev invariant-loop : tie.invariant-loop-a
 invariant-loop places roads₀ broads₀ a₀ roads broads a = Growing (parked (bare roads₀) a) (parked (bare roads₀) a) a places roads₀ broads₀ roads broads
 
-abbrev decreases-loop : tie.decreases-loop
+abbrev decreases-loop : tie.decreases-loop-a
 decreases-loop places roads₀ broads₀ a₀ roads broads a = places - a
 
-abbrev entered : tie.At-loop invariant-loop decreases-loop → tie.Start invariant-loop decreases-loop
+abbrev entered : tie.At-loop-a invariant-loop decreases-loop → tie.Start invariant-loop decreases-loop
 entered c = c.before.before.before
 
-abbrev done : tie.After-slice-known4 invariant-loop decreases-loop → tie.After-park invariant-loop decreases-loop
+abbrev done : tie.After-slice_known-in-loop-a-2-1 invariant-loop decreases-loop → tie.After-park invariant-loop decreases-loop
 done c = c.before.before.before.before
 
-abbrev turn : tie.After-park-arg2 invariant-loop decreases-loop → tie.In-loop invariant-loop decreases-loop
+abbrev turn : tie.After-park-arg-in-loop-a-1 invariant-loop decreases-loop → tie.In-loop-a invariant-loop decreases-loop
 turn c = c.before.before
 
-loop-holds : tie.Need-loop-init invariant-loop decreases-loop
+loop-holds : tie.Need-loop-a-init invariant-loop decreases-loop
 loop-holds c =
     let a = c.before.before.args in
     let free = bare a.roads.now in
@@ -33,23 +33,23 @@ park-requires : tie.Need-park-requires invariant-loop decreases-loop
 park-requires c κs =
     let t = turn c in
     let s = entered t.before in
-    let g = t.before.loop.inv in
-    (omega (arith, s.pre.0, t.loop-test.taken), omega (arith, s.pre.1, g.long), omega (arith, s.pre.2, g.long-back))
+    let g = t.before.loop-a.invariant in
+    (omega (arith, s.requires.0, t.loop-a-test.true), omega (arith, s.requires.1, g.long), omega (arith, s.requires.2, g.long-back))
 
-loop-again : tie.Need-loop-preserved invariant-loop decreases-loop
+loop-again : tie.Need-loop-a-preserved invariant-loop decreases-loop
 loop-again c =
     let q = done c in
     let t = turn q.before in
     let s = entered t.before in
     let a = s.args in
-    let l = t.before.loop in
-    let g = l.inv in
+    let l = t.before.loop-a in
+    let g = l.invariant in
     let free = bare a.roads.now in
-    let same : bare l.roads l.a ≡ free l.a = bare-same free a.roads.now l.roads l.a (omega (arith, s.pre.0, t.loop-test.taken)) g.forth in
+    let same : bare l.roads-1 l.a ≡ free l.a = bare-same free a.roads.now l.roads-1 l.a (omega (arith, s.requires.0, t.loop-a-test.true)) g.forth in
     record {
-      few = omega (arith, t.loop-test.taken);
-      long = omega (arith, g.long, q.park.kept);
-      long-back = omega (arith, g.long-back, q.park.kept);
+      few = omega (arith, t.loop-a-test.true);
+      long = omega (arith, g.long, q.park.auto);
+      long-back = omega (arith, g.long-back, q.park.auto);
       forth = parked-next free a.roads.now l.a _ same g.forth q.park.ensures.0;
       back = parked-next free a.broads.now l.a _ same g.back q.park.ensures.1;
     }
@@ -57,13 +57,13 @@ loop-again c =
 returns : tie.Need-returns invariant-loop decreases-loop
 returns c =
     let s = entered c.before in
-    let l = c.before.loop in
-    let all : l.a ≡ s.args.places = omega (arith, l.invariant.few, c.loop-test.false) in
+    let l = c.before.loop-a in
+    let all : l.a ≡ s.args.places = omega (arith, l.invariant.few, c.loop-a-test.false) in
     let free = bare s.args.roads.now in
-    (subst (λ n. Gains (parked free n) s.args.roads.now l.roads) all l.invariant.forth, subst (λ n. Gains (parked free n) s.args.broads.now l.broads) all l.invariant.back)
+    (subst (λ n. Gains (parked free n) s.args.roads.now l.roads-1) all l.invariant.forth, subst (λ n. Gains (parked free n) s.args.broads.now l.broads-1) all l.invariant.back)
 
-pub park-all-spec : {M : Type 1} → statement M
-park-all-spec =
+pub park_all_spec : {M : Type 1} → statement M
+park_all_spec =
     tie.close
     (tie.spec
     invariant-loop

@@ -5,41 +5,41 @@ use Rattle.roadmap.proofs.Paths.{blank-long, paths-made}
 use Rattle.roadmap.proofs.words.road_words.Statement.{statement}
 use Rattle.roadmap.proofs.words.road_words.Tie as tie
 
-abbrev entered : tie.After-mark-roads-arg2 → tie.Start
+abbrev entered : tie.After-mark_roads-arg-2-1 → tie.Start
 entered c = c.before.before.before.before.before.before.before.before.before
 
-abbrev marked : tie.After-park-all-arg2 → tie.After-mark-roads
+abbrev marked : tie.After-park_all-arg-2-1 → tie.After-mark_roads
 marked c = c.before.before.before.before.before.before.before
 
-abbrev parked : tie.After-slice-known6 → tie.After-park-all
+abbrev parked : tie.After-slice_known-6-1 → tie.After-park_all
 parked c = c.before.before.before.before
 
-mark-roads-requires : tie.Need-mark-roads-requires
+mark-roads-requires : tie.Need-mark_roads-requires
 mark-roads-requires c κs =
     let s = entered c in
-    let w = s.pre.0 in
-    (w.roads, blank-long s.pre.1, blank-long s.pre.2, λ i. omega (arith, w.from i, w.few), λ i. omega (arith, w.to i, w.few))
+    let w = s.requires.0 in
+    (w.roads-1, blank-long s.requires.1, blank-long s.requires.2, λ i. omega (arith, w.from-1 i, w.few), λ i. omega (arith, w.to-1 i, w.few))
 
-park-all-requires : tie.Need-park-all-requires
+park-all-requires : tie.Need-park_all-requires
 park-all-requires c κs =
     let m = marked c in
     let s = entered m.before in
-    let k = m.mark-roads.kept in
-    (s.pre.0.few, omega (arith, k, blank-long s.pre.1), omega (arith, k, blank-long s.pre.2))
+    let k = m.mark_roads.auto in
+    (s.requires.0.few, omega (arith, k, blank-long s.requires.1), omega (arith, k, blank-long s.requires.2))
 
 returns : tie.Need-returns
 returns c =
     let q = parked c in
     let m = marked q.before in
     let s = entered m.before in
-    let long = blank-long s.pre.1 in
-    let long-back = blank-long s.pre.2 in
-    paths-made s.args.p s.pre.0 s.pre.1 s.pre.2 m.mark-roads.ensures.0 m.mark-roads.ensures.1
-    q.park-all.ensures.0 q.park-all.ensures.1
-    (omega (arith, m.mark-roads.kept, q.park-all.kept)) (omega (arith, m.mark-roads.kept, q.park-all.kept))
+    let long = blank-long s.requires.1 in
+    let long-back = blank-long s.requires.2 in
+    paths-made s.args.p s.requires.0 s.requires.1 s.requires.2 m.mark_roads.ensures.0 m.mark_roads.ensures.1
+    q.park_all.ensures.0 q.park_all.ensures.1
+    (omega (arith, m.mark_roads.auto, q.park_all.auto)) (omega (arith, m.mark_roads.auto, q.park_all.auto))
 
-pub road-words-spec : {M : Type 1} → statement M
-road-words-spec =
+pub road_words_spec : {M : Type 1} → statement M
+road_words_spec =
     tie.close
     (tie.spec
     (λ c. search rules)

@@ -5,17 +5,17 @@ use borrow.Author.Rules.{rules}
 use Rattle.text.proofs.line.finish.Statement.{statement}
 use Rattle.text.proofs.line.finish.Tie as tie
 
-returns : tie.Need-returns
+returns : tie.Need-returns-in_default
 unfolding finish
-returns c = rw c.enum_told.given.1
+returns c = rw c.enum_told-1.given.1
 
-returns-2 : tie.Need-returns-2
+returns-2 : tie.Need-returns-then-at-s
 unfolding finish
-returns-2 c = rw (c.before.before.before.last.given.1, lt-ltb _ _ c.before.if1.true, c.line_at_lem.ensures)
+returns-2 c = rw (c.before.before.before.last-1.given.1, lt-ltb _ _ c.before.if-at-s.true, c.line_at_lem.ensures)
 
-returns-3 : tie.Need-returns-3
+returns-3 : tie.Need-returns-else-at-s
 unfolding finish
-returns-3 c = rw (c.before.before.last.given.1, le-ltb _ _ c.if1.false)
+returns-3 c = rw (c.before.before.last-1.given.1, le-ltb _ _ c.if-at-s.false)
 
 pub finish_spec : {M : Type 1} → statement M
 finish_spec =

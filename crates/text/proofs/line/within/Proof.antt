@@ -4,13 +4,13 @@ use Rattle.text.specs.Line.{within}
 use Rattle.text.proofs.line.within.Statement.{statement}
 use Rattle.text.proofs.line.within.Tie as tie
 
-returns : tie.Need-returns
+returns : tie.Need-returns-then-x-low
 unfolding within
-returns c = rw (lt-ltb _ _ c.if1.true)
+returns c = rw (lt-ltb _ _ c.if-x-low.true)
 
-returns-2 : tie.Need-returns-2
+returns-2 : tie.Need-returns
 unfolding within
-returns-2 c = rw (le-ltb _ _ c.if1.false)
+returns-2 c = rw (le-ltb _ _ c.if-x-low.false)
 
-pub within-spec : {M : Type 1} → statement M
-within-spec = tie.close (tie.spec returns returns-2)
+pub within_spec : {M : Type 1} → statement M
+within_spec = tie.close (tie.spec returns returns-2)

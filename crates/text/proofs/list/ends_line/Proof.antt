@@ -4,8 +4,8 @@ use borrow.Author.Rules.{rules}
 use Rattle.text.proofs.list.ends_line.Statement.{statement}
 use Rattle.text.proofs.list.ends_line.Tie as tie
 
-returns-2 : tie.Need-returns-2
-returns-2 c = let a = c.before.args in no-end-past a.s.now a.at c.if1.false
+returns-2 : tie.Need-returns
+returns-2 c = let a = c.before.args in no-end-past a.s.now a.at c.if-at-s.false
 
-pub ends-line-spec : {M : Type 1} → statement M
-ends-line-spec = tie.close (tie.spec (λ c. search rules) (λ c. search rules) returns-2)
+pub ends_line_spec : {M : Type 1} → statement M
+ends_line_spec = tie.close (tie.spec (λ c. search rules) (λ c. search rules) returns-2)

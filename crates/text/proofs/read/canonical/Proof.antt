@@ -4,17 +4,17 @@ use Rattle.text.specs.Scan.{canonical}
 use Rattle.text.proofs.read.canonical.Statement.{statement}
 use Rattle.text.proofs.read.canonical.Tie as tie
 
-returns : tie.Need-returns
+returns : tie.Need-returns-then-count-eq0
 unfolding canonical
-returns c = rw (eq-eqb _ _ c.if1.true)
+returns c = rw (eq-eqb _ _ c.if-count-eq0.true)
 
-returns-2 : tie.Need-returns-2
+returns-2 : tie.Need-returns-then-first-eq48
 unfolding canonical
-returns-2 c = rw (ne_eqb _ _ c.before.if1.false, eq-eqb _ _ c.if2.true)
+returns-2 c = rw (ne_eqb _ _ c.before.if-count-eq0.false, eq-eqb _ _ c.if-first-eq48.true)
 
-returns-3 : tie.Need-returns-3
+returns-3 : tie.Need-returns
 unfolding canonical
-returns-3 c = rw (ne_eqb _ _ c.before.if1.false, ne_eqb _ _ c.if2.false)
+returns-3 c = rw (ne_eqb _ _ c.before.if-count-eq0.false, ne_eqb _ _ c.if-first-eq48.false)
 
-pub canonical-spec : {M : Type 1} → statement M
-canonical-spec = tie.close (tie.spec returns returns-2 returns-3)
+pub canonical_spec : {M : Type 1} → statement M
+canonical_spec = tie.close (tie.spec returns returns-2 returns-3)

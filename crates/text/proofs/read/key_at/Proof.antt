@@ -55,82 +55,82 @@ record Matched (s : List ℕ) (at : ℕ) (key : List ℕ) (j : ℕ) : Type 0 whe
   -- what is left to compare decides
   pub same : starts_with key (drop at s) ≡ starts_with (drop j key) (drop (at + j) s)
 
-abbrev invariant-loop : tie.invariant-loop
+abbrev invariant-loop : tie.invariant-loop-j
 invariant-loop s at key j₀ j = Matched s at key j
 
-abbrev decreases-loop : tie.decreases-loop
+abbrev decreases-loop : tie.decreases-loop-j
 decreases-loop s at key j₀ j = length key - j
 
 -- where the function starts, and where a turn knows its index
-abbrev entered : tie.At-loop invariant-loop decreases-loop → tie.Start invariant-loop decreases-loop
+abbrev entered : tie.At-loop-j invariant-loop decreases-loop → tie.Start invariant-loop decreases-loop
 entered l = l.before.before.before.before
 
-abbrev turn : tie.After-shared-slice-known2 invariant-loop decreases-loop → tie.In-loop invariant-loop decreases-loop
+abbrev turn : tie.After-shared_slice_known-in-loop-j-1 invariant-loop decreases-loop → tie.In-loop-j invariant-loop decreases-loop
 turn c = c.before.before
 
 -- a byte of the key has one of the text beside it
-beside : (c : tie.In-loop invariant-loop decreases-loop) → let a = (entered c.before).args in a.at + c.before.loop.j < length a.s.now
-beside c = omega (arith, c.before.loop.invariant.room, c.loop-test.true)
+beside : (c : tie.In-loop-j invariant-loop decreases-loop) → let a = (entered c.before).args in a.at + c.before.loop-j.j < length a.s.now
+beside c = omega (arith, c.before.loop-j.invariant.room, c.loop-j-test.true)
 
-returns : tie.Need-returns invariant-loop decreases-loop
+returns : tie.Need-returns-then-key-eq0 invariant-loop decreases-loop
 returns c =
     let a = c.before.args in
-    key-read _ _ _ (passed a.s.now a.key.now a.at 0 (omega (arith, c.if1.true))) _ (omega (arith, c.if1.true))
+    key-read _ _ _ (passed a.s.now a.key.now a.at 0 (omega (arith, c.if-key-eq0.true))) _ (omega (arith, c.if-key-eq0.true))
 
-returns-2 : tie.Need-returns-2 invariant-loop decreases-loop
+returns-2 : tie.Need-returns-then-s-key invariant-loop decreases-loop
 returns-2 c =
     let a = c.before.before.args in
-    other_key _ _ _ (shorter a.key.now (drop a.at a.s.now) (omega (arith, length-drop a.at a.s.now, c.if2.true)))
+    other_key _ _ _ (shorter a.key.now (drop a.at a.s.now) (omega (arith, length-drop a.at a.s.now, c.if-s-key.true)))
 
-returns-3 : tie.Need-returns-3 invariant-loop decreases-loop
+returns-3 : tie.Need-returns-then-s-key-2 invariant-loop decreases-loop
 returns-3 c =
     let e = c.before in let f = e.before in let a = f.before.args in
     other_key _ _ _ (shorter a.key.now (drop a.at a.s.now)
-    (omega (arith, length-drop a.at a.s.now, f.if1.false, e.if2.false, c.if3.true)))
+    (omega (arith, length-drop a.at a.s.now, f.if-key-eq0.false, e.if2.false, c.if-s-key-2.true)))
 
-loop-holds : tie.Need-loop-init invariant-loop decreases-loop
+loop-holds : tie.Need-loop-j-init invariant-loop decreases-loop
 loop-holds c =
     let e = c.before in let a = e.before.before.args in
     let z : a.at ≡ a.at + 0 = omega arith in
     record {
       within = omega arith;
-      room = omega (arith, e.if2.false, c.if3.false);
+      room = omega (arith, e.if2.false, c.if-s-key-2.false);
       same = ap (λ i. starts_with a.key.now (drop i a.s.now)) z;
     }
 
-add-if4 : tie.Need-overflow-add-if4 invariant-loop decreases-loop
+add-if4 : tie.Need-overflow_add-at invariant-loop decreases-loop
 add-if4 c = search (rules, beside c)
 
-shared-slice-read-if4 : tie.Need-shared-slice-read-if4 invariant-loop decreases-loop
+shared-slice-read-if4 : tie.Need-bounds-s-at invariant-loop decreases-loop
 shared-slice-read-if4 c = search (rules, beside c.before)
 
-returns-4 : tie.Need-returns-4 invariant-loop decreases-loop
+returns-4 : tie.Need-returns-then-s-at invariant-loop decreases-loop
 returns-4 c =
-    let u = turn c.before in let l = u.before.loop in let a = (entered u.before).args in
-    other_key _ _ _ (l.inv.same ∙ differs _ _ (a.at + l.j) l.j u.loop-test.taken (beside u) c.if4.true)
+    let u = turn c.before in let l = u.before.loop-j in let a = (entered u.before).args in
+    other_key _ _ _ (l.invariant.same ∙ differs _ _ (a.at + l.j) l.j u.loop-test.true (beside u) c.if-s-at.true)
 
-loop-again : tie.Need-loop-preserved invariant-loop decreases-loop
+loop-again : tie.Need-loop-j-preserved invariant-loop decreases-loop
 loop-again c =
-    let u = turn c.before in let l = u.before.loop in let a = (entered u.before).args in
+    let u = turn c.before in let l = u.before.loop-j in let a = (entered u.before).args in
     let e : a.at + l.j + 1 ≡ a.at + (l.j + 1) = omega arith in
     record {
       within = omega arith;
-      room = l.inv.room;
+      room = l.invariant.room;
       same =
-          l.inv.same ∙ agrees _ _ (a.at + l.j) l.j u.loop-test.taken (beside u) c.if4.false
+          l.invariant.same ∙ agrees _ _ (a.at + l.j) l.j u.loop-test.true (beside u) c.if-s-at.false
           ∙ ap (λ i. starts_with (drop (l.j + 1) a.key.now) (drop i a.s.now)) e;
     }
 
-add-t7 : tie.Need-overflow-add-t7 invariant-loop decreases-loop
-add-t7 c = search (rules, c.before.loop.invariant.room)
+add-t7 : tie.Need-overflow_add-result invariant-loop decreases-loop
+add-t7 c = search (rules, c.before.loop-j.invariant.room)
 
-returns-5 : tie.Need-returns-5 invariant-loop decreases-loop
+returns-5 : tie.Need-returns invariant-loop decreases-loop
 returns-5 c =
-    let l = c.before.loop in let a = (entered c.before).args in
-    key-read _ _ _ (l.invariant.same ∙ passed _ _ (a.at + l.j) l.j c.loop-test.false) _ refl
+    let l = c.before.loop-j in let a = (entered c.before).args in
+    key-read _ _ _ (l.invariant.same ∙ passed _ _ (a.at + l.j) l.j c.loop-j-test.false) _ refl
 
-pub key-at-spec : {M : Type 1} → statement M
-key-at-spec =
+pub key_at_spec : {M : Type 1} → statement M
+key_at_spec =
     tie.close
     (tie.spec
     invariant-loop

@@ -17,40 +17,40 @@ record Counted (s : List ℕ) (at i line : ℕ) : Type 0 where
   -- what is left to count makes up the line's number
   pub same : line_at s at ≡ line + newlines (take (at - i) (drop i s))
 
-abbrev invariant-loop : tie.invariant-loop
+abbrev invariant-loop : tie.invariant-loop-i
 invariant-loop s at line₀ i₀ line i = Counted s at i line
 
-abbrev decreases-loop : tie.decreases-loop
+abbrev decreases-loop : tie.decreases-loop-i
 decreases-loop s at line₀ i₀ line i = at - i
 
-abbrev start : tie.At-loop invariant-loop decreases-loop → tie.Start invariant-loop decreases-loop
+abbrev start : tie.At-loop-i invariant-loop decreases-loop → tie.Start invariant-loop decreases-loop
 start c = c.before.before
 
-loop-holds : tie.Need-loop-init invariant-loop decreases-loop
+loop-holds : tie.Need-loop-i-init invariant-loop decreases-loop
 loop-holds c = record { within = omega arith; small = omega arith; same = line-start _ _ }
 
-returns : tie.Need-returns invariant-loop decreases-loop
+returns : tie.Need-returns-then-s-i invariant-loop decreases-loop
 returns c =
     let l = c.before.before in let a = (start l).args in
-    omega (arith, l.loop.invariant.same, newlines-past a.s.now a.at l.loop.i c.if1.true)
+    omega (arith, l.loop.invariant.same, newlines-past a.s.now a.at l.loop.i c.if-s-i.true)
 
-loop-again : tie.Need-loop-preserved invariant-loop decreases-loop
+loop-again : tie.Need-loop-i-preserved invariant-loop decreases-loop
 loop-again c =
     let e = c.before.before in let l = e.before.before in let a = (start l).args in
-    let n = newlines-more a.s.now a.at l.loop.i e.before.loop-test.true e.if1.false in
+    let n = newlines-more a.s.now a.at l.loop.i e.before.loop-i-test.true e.if1.false in
     record {
       within = omega arith;
       small = omega (arith, l.loop.invariant.small);
-      same = omega (arith, l.loop.invariant.same, c.newline.ensures.0);
+      same = omega (arith, l.loop.invariant.same, c.newline-line.ensures.0);
     }
 
-returns-2 : tie.Need-returns-2 invariant-loop decreases-loop
+returns-2 : tie.Need-returns invariant-loop decreases-loop
 returns-2 c =
     let l = c.before in let a = (start l).args in
-    omega (arith, l.loop.invariant.same, newlines-done a.s.now a.at l.loop.i c.loop-test.false)
+    omega (arith, l.loop.invariant.same, newlines-done a.s.now a.at l.loop.i c.loop-i-test.false)
 
-pub line-at-spec : {M : Type 1} → statement M
-line-at-spec =
+pub line_at_spec : {M : Type 1} → statement M
+line_at_spec =
     tie.close
     (tie.spec
     invariant-loop

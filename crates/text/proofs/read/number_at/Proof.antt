@@ -21,78 +21,78 @@ record Scanned (s : List ℕ) (at i v : ℕ) : Type 0 where
   pub held : min (value 0 (drop at s)) 4000000000 ≡ min (value v (drop i s)) 4000000000
   pub small : v ≤ 4000000000
 
-abbrev invariant-loop : tie.invariant-loop
+abbrev invariant-loop : tie.invariant-loop-i
 invariant-loop s at end i₀ v₀ i v = Scanned s at i v
 
-abbrev decreases-loop : tie.decreases-loop
+abbrev decreases-loop : tie.decreases-loop-i
 decreases-loop s at end i₀ v₀ i v = length s - i
 
 -- the places that the answers refer to: where the function starts, a turn, and where `end` stands
-abbrev start : tie.At-loop invariant-loop decreases-loop → tie.Start invariant-loop decreases-loop
+abbrev start : tie.At-loop-i invariant-loop decreases-loop → tie.Start invariant-loop decreases-loop
 start c = c.before.before
 
-abbrev turn : tie.After-digit invariant-loop decreases-loop → tie.In-loop invariant-loop decreases-loop
+abbrev turn : tie.After-digit invariant-loop decreases-loop → tie.In-loop-i invariant-loop decreases-loop
 turn c = c.before.before
 
-abbrev ended : tie.After-canonical invariant-loop decreases-loop → tie.Else2 invariant-loop decreases-loop
+abbrev ended : tie.After-canonical invariant-loop decreases-loop → tie.Else-b-end invariant-loop decreases-loop
 ended c = c.before.before
 
 -- the byte is no digit, and the digits passed are all that stand there
-module _ (c : tie.Then1 invariant-loop decreases-loop) where
-  abbrev l : tie.At-loop invariant-loop decreases-loop
+module _ (c : tie.Then-not-digit invariant-loop decreases-loop) where
+  abbrev l : tie.At-loop-i invariant-loop decreases-loop
   l = (turn c.before).before
 
-  no_digit : is_digit (get_or (start l).args.s.now l.loop.i 0) ≡ false
-  no_digit = sym c.before.digit.ensures ∙ not-true _ c.if1.true
+  no_digit : is_digit (get_or (start l).args.s.now l.loop-i.i 0) ≡ false
+  no_digit = sym c.before.digit.ensures ∙ not-true _ c.if-not-digit.true
 
-  all-passed : digit_count (drop (start l).args.at (start l).args.s.now) ≡ l.loop.i - (start l).args.at
-  all-passed = omega (arith, l.loop.inv.count, none_here (start l).args.s.now l.loop.i (turn c.before).loop-test.taken no_digit)
+  all-passed : digit_count (drop (start l).args.at (start l).args.s.now) ≡ l.loop-i.i - (start l).args.at
+  all-passed = omega (arith, l.loop-i.invariant.count, none_here (start l).args.s.now l.loop-i.i (turn c.before).loop-i-test.true no_digit)
 
-returns : tie.Need-returns invariant-loop decreases-loop
+returns : tie.Need-returns-then-b-end invariant-loop decreases-loop
 returns c =
     let t = turn c.before.before in let l = t.before in
-    ends-otherwise (start l).args.s.now _ l.loop.i _ l.loop.inv.from (all-passed c.before) t.loop-test.taken c.if2.true
+    ends-otherwise (start l).args.s.now _ l.loop-i.i _ l.loop-i.invariant.from (all-passed c.before) t.loop-i-test.true c.if-b-end.true
 
-returns-2 : tie.Need-returns-2 invariant-loop decreases-loop
+returns-2 : tie.Need-returns-then-canonical invariant-loop decreases-loop
 returns-2 c =
     let e = ended c.before in let o = e.before in let t = turn o.before in let l = t.before in
     let s = (start l).args.s.now in
-    let h = t.loop-test.taken in
-    let v = value-here s l.loop.i h (no_digit o) l.loop.v in
-    number_read s _ l.loop.i _ l.loop.inv.from (all-passed o) h e.if2.left (sym c.before.canonical.ensures ∙ c.if3.true) _
-    (omega (arith, l.loop.inv.held, l.loop.inv.small))
+    let h = t.loop-i-test.true in
+    let v = value-here s l.loop-i.i h (no_digit o) l.loop-i.v in
+    number_read s _ l.loop-i.i _ l.loop-i.invariant.from (all-passed o) h e.if-b-end.false (sym c.before.canonical.ensures ∙ c.if-canonical.true) _
+    (omega (arith, l.loop-i.invariant.held, l.loop-i.invariant.small))
 
-returns-3 : tie.Need-returns-3 invariant-loop decreases-loop
+returns-3 : tie.Need-returns-then-not-digit invariant-loop decreases-loop
 returns-3 c =
     let e = ended c.before in let o = e.before in let t = turn o.before in let l = t.before in
-    not-canonical (start l).args.s.now _ l.loop.i _ l.loop.inv.from (all-passed o) t.loop-test.taken e.if2.left
-    (sym c.before.canonical.ensures ∙ c.if3.false)
+    not-canonical (start l).args.s.now _ l.loop-i.i _ l.loop-i.invariant.from (all-passed o) t.loop-i-test.true e.if-b-end.false
+    (sym c.before.canonical.ensures ∙ c.if-canonical.false)
 
-append-digit-requires : tie.Need-append-digit-requires invariant-loop decreases-loop
-append-digit-requires c κs = digit-range _ (sym c.before.digit.ensures ∙ not-false _ c.if1.false)
+append-digit-requires : tie.Need-append_digit-v-requires invariant-loop decreases-loop
+append-digit-requires c κs = digit-range _ (sym c.before.digit.ensures ∙ not-false _ c.if-not-digit.false)
 
-loop-again : tie.Need-loop-preserved invariant-loop decreases-loop
+loop-again : tie.Need-loop-i-preserved invariant-loop decreases-loop
 loop-again c =
-    let e = c.before in let t = turn e.before in let l = t.before.loop in
+    let e = c.before in let t = turn e.before in let l = t.before.loop-i in
     let s = (start t.before).args.s.now in
-    let h = t.loop-test.taken in
-    let d = sym e.before.digit.ensures ∙ not-false _ e.if1.false in
+    let h = t.loop-i-test.true in
+    let d = sym e.before.digit.ensures ∙ not-false _ e.if-not-digit.false in
     record {
-      from = omega (arith, l.inv.from);
-      count = omega (arith, l.inv.count, l.inv.from, digit-count-more s l.i h d);
-      held = l.inv.held ∙ held-value s l.i h d 4000000000 l.v ∙ rw (← c.append-digit.ensures);
-      small = omega (arith, c.append-digit.ensures);
+      from = omega (arith, l.invariant.from);
+      count = omega (arith, l.invariant.count, l.invariant.from, digit-count-more s l.i h d);
+      held = l.invariant.held ∙ held-value s l.i h d 4000000000 l.v ∙ rw (← c.append_digit-v.ensures);
+      small = omega (arith, c.append_digit-v.ensures);
     }
 
-returns-4 : tie.Need-returns-4 invariant-loop decreases-loop
+returns-4 : tie.Need-returns invariant-loop decreases-loop
 returns-4 c =
-    let l = c.before.loop in
+    let l = c.before.loop-i in
     let s = (start c.before).args.s.now in
-    let n = none-past s l.i c.loop-test.false in
-    ends-text s _ l.i _ l.invariant.from (omega (arith, l.invariant.count)) c.loop-test.false
+    let n = none-past s l.i c.loop-i-test.false in
+    ends-text s _ l.i _ l.invariant.from (omega (arith, l.invariant.count)) c.loop-i-test.false
 
-pub number-at-spec : {M : Type 1} → statement M
-number-at-spec =
+pub number_at_spec : {M : Type 1} → statement M
+number_at_spec =
     tie.close
     (tie.spec
     invariant-loop

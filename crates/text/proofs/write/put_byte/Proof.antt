@@ -10,5 +10,5 @@ returns c =
     let a = c.args in
     record { place = refl; bytes = sym (over-byte a.out.now a.at a.byte (search rules)) }
 
-pub put-byte-spec : {M : Type 1} → statement M
-put-byte-spec = tie.close (tie.spec (λ c. search rules) (λ c. search rules) (λ c. search rules) returns)
+pub put_byte_spec : {M : Type 1} → statement M
+put_byte_spec = tie.close (tie.spec (λ c. search rules) (λ c. search rules) (λ c. search rules) returns)

@@ -24,18 +24,18 @@ module _ {b : List ℕ} (at : ℕ) {text out : List ℕ} (i : ℕ) (bytes : List
   end : length bytes ≤ i → Left b at text out (at + i) (drop i bytes) → Wrote b at text out (at + i)
   end h l = left_end (rw (drop_of_length-le bytes h) at l)
 
-abbrev invariant-loop : tie.invariant-loop
+abbrev invariant-loop : tie.invariant-loop-i
 invariant-loop out₀ at bytes i₀ out i = (i ≤ length bytes) × Left out₀ at bytes out (at + i) (drop i bytes)
 
-abbrev decreases-loop : tie.decreases-loop
+abbrev decreases-loop : tie.decreases-loop-i
 decreases-loop out₀ at bytes i₀ out i = length bytes - i
 
-loop-holds : tie.Need-loop-init invariant-loop decreases-loop
+loop-holds : tie.Need-loop-i-init invariant-loop decreases-loop
 loop-holds c =
     let a = c.args in
     (omega arith, rw (add-zero a.at) (left-start a.out.now a.at a.bytes.now (omega arith)))
 
-loop-again : tie.Need-loop-preserved invariant-loop decreases-loop
+loop-again : tie.Need-loop-i-preserved invariant-loop decreases-loop
 loop-again c =
     let l = c.before.before in let a = l.before.args in
     (omega arith, next a.at l.loop.i a.bytes.now (omega arith) l.loop.invariant.1)
@@ -45,8 +45,8 @@ returns c =
     let l = c.before in let a = l.before.args in
     end a.at l.loop.i a.bytes.now (omega arith) l.loop.invariant.1
 
-pub put-bytes-spec : {M : Type 1} → statement M
-put-bytes-spec =
+pub put_bytes_spec : {M : Type 1} → statement M
+put_bytes_spec =
     tie.close
     (tie.spec
     invariant-loop

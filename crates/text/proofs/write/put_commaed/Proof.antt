@@ -38,54 +38,54 @@ module _ {b : List ℕ} {at : ℕ} {text out : List ℕ} {next : ℕ} (numbers :
   unfolding commaed
   end h l = left_end (rw (drop_of_length-le numbers h) at l)
 
-abbrev invariant-loop : tie.invariant-loop
+abbrev invariant-loop : tie.invariant-loop-i
 invariant-loop out₀ at numbers next₀ i₀ out next i =
     (i ≤ length numbers) × Left out₀ at (commaed numbers) out next (commaed (drop i numbers))
 
-abbrev decreases-loop : tie.decreases-loop
+abbrev decreases-loop : tie.decreases-loop-i
 decreases-loop out₀ at numbers next₀ i₀ out next i = length numbers - i
 
 -- the places that the answers refer to: where the function starts, and after a turn's comma
-abbrev start : tie.At-loop invariant-loop decreases-loop → tie.Start invariant-loop decreases-loop
+abbrev start : tie.At-loop-i invariant-loop decreases-loop → tie.Start invariant-loop decreases-loop
 start c = c.before.before.before
 
-abbrev comma : tie.After-wide invariant-loop decreases-loop → tie.After-put-byte invariant-loop decreases-loop
+abbrev comma : tie.After-wide invariant-loop decreases-loop → tie.After-put_byte-number invariant-loop decreases-loop
 comma c = c.before.before.before.before.before
 
-loop-holds : tie.Need-loop-init invariant-loop decreases-loop
+loop-holds : tie.Need-loop-i-init invariant-loop decreases-loop
 loop-holds c =
     let s = c.before.before in let a = s.args in
-    (omega arith, left-start a.out.now a.at (commaed a.numbers.now) s.requires)
+    (omega arith, left-start a.out-1.now a.at (commaed a.numbers.now) s.requires)
 
-put-byte-requires : tie.Need-put-byte-requires invariant-loop decreases-loop
+put-byte-requires : tie.Need-put_byte-number-requires invariant-loop decreases-loop
 put-byte-requires c κs =
     let t = c.before in let l = t.before in
-    comma-room (start l).args.numbers.now l.loop.i t.loop-test.true l.loop.invariant.1
+    comma-room (start l).args.numbers.now l.loop-i.i t.loop-i-test.true l.loop-i.invariant.1
 
-put-decimal-requires : tie.Need-put-decimal-requires invariant-loop decreases-loop
+put-decimal-requires : tie.Need-put_decimal-next-requires invariant-loop decreases-loop
 put-decimal-requires c κs =
     let b = comma c in let t = b.before.before in let l = t.before in
     rw c.wide.ensures
-    (number-room (start l).args.numbers.now l.loop.i t.loop-test.taken l.loop.inv.1 b.put_byte.ensures)
+    (number-room (start l).args.numbers.now l.loop-i.i t.loop-i-test.true l.loop-i.invariant.1 b.put_byte-number.ensures)
 
-loop-again : tie.Need-loop-preserved invariant-loop decreases-loop
+loop-again : tie.Need-loop-i-preserved invariant-loop decreases-loop
 loop-again c =
     let n = c.before.before in let w = n.before in let b = comma w in let t = b.before.before in
     let l = t.before in (
       omega arith,
-      turn (start l).args.numbers.now l.loop.i t.loop-test.taken l.loop.inv.1 b.put_byte.ensures
+      turn (start l).args.numbers.now l.loop-i.i t.loop-i-test.true l.loop-i.invariant.1 b.put_byte-number.ensures
           w.wide.ensures
-          n.put-decimal.ensures,
+          n.put_decimal-next.ensures,
     )
 
-same_length : tie.Need-same-length invariant-loop decreases-loop
-same_length c = c.before.loop.invariant.1.size
+same_length : tie.Need-shape_of-out invariant-loop decreases-loop
+same_length c = c.before.loop-i.invariant.1.size
 
 returns : tie.Need-returns invariant-loop decreases-loop
-returns c = let l = c.before in end (start l).args.numbers.now l.loop.i c.loop-test.false l.loop.invariant.1
+returns c = let l = c.before in end (start l).args.numbers.now l.loop-i.i c.loop-i-test.false l.loop-i.invariant.1
 
-pub put-commaed-spec : {M : Type 1} → statement M
-put-commaed-spec =
+pub put_commaed_spec : {M : Type 1} → statement M
+put_commaed_spec =
     tie.close
     (tie.spec
     invariant-loop

@@ -48,37 +48,37 @@ module _ (numbers : List ℕ) (some : 0 < length numbers) (b : List ℕ) (at : �
     both o = rw (joined-first numbers some) (wrote-both room-both (rw e at d) o)
 
 -- the places that the answers refer to: where the function starts, and after the first number
-abbrev start : tie.After-shared-slice-known → tie.Start
+abbrev start : tie.After-shared_slice_known-1 → tie.Start
 start c = c.before.before
 
 abbrev some : tie.After-wide → tie.Start
 some c = start c.before.before.before.before
 
-abbrev put_first : tie.After-put-commaed-arg2 → tie.After-put-decimal
+abbrev put_first : tie.After-put_commaed-arg-2-1 → tie.After-put_decimal-next
 put_first c = c.before.before.before.before
 
-returns : tie.Need-returns
-returns c = let a = (start c.before).args in none a.out.now a.at a.numbers.now c.if1.true
+returns : tie.Need-returns-then-numbers-eq0
+returns c = let a = (start c.before).args in none a.out.now a.at a.numbers.now c.if-numbers-eq0.true
 
-put-decimal-requires : tie.Need-put-decimal-requires
+put-decimal-requires : tie.Need-put_decimal-next-requires
 put-decimal-requires c κs =
     let a = (some c).args in
     rw c.wide.ensures (first-room a.numbers.now (omega arith) a.out.now a.at (some c).requires)
 
-put-commaed-requires : tie.Need-put-commaed-requires
+put-commaed-requires : tie.Need-put_commaed-requires
 put-commaed-requires c κs =
     let f = put_first c in let w = f.before in let a = (some w).args in
     rw part_to_end
-    (others-room a.numbers.now (omega arith) a.out.now a.at (some w).pre w.wide.ensures f.put-decimal.ensures)
+    (others-room a.numbers.now (omega arith) a.out.now a.at (some w).requires w.wide.ensures f.put-decimal.ensures)
 
-returns-2 : tie.Need-returns-2
+returns-2 : tie.Need-returns
 returns-2 c =
     let o = c.before.before in let f = put_first o.before in let w = f.before in let a = (some w).args in
-    both a.numbers.now (omega arith) a.out.now a.at (some w).pre w.wide.ensures f.put-decimal.ensures
+    both a.numbers.now (omega arith) a.out.now a.at (some w).requires w.wide.ensures f.put-decimal.ensures
     (rw part_to_end at o.put-commaed.ensures)
 
-pub put-joined-spec : {M : Type 1} → statement M
-put-joined-spec =
+pub put_joined_spec : {M : Type 1} → statement M
+put_joined_spec =
     tie.close
     (tie.spec
     returns
