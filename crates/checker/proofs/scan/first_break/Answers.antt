@@ -1,0 +1,9 @@
+-- `first_break` meets its contract: the table is blank.
+use Prim.Native.Nat.{ℕ}
+use native.Mathlib.Omega.{arith}
+use lib.ListN.{length-replicate}
+use Rattle.checker.proofs.Roads.{replicate-blank}
+use Rattle.checker.proofs.scan.first_break.Goals as goal
+
+pub break_on-requires : goal.break_on-requires
+break_on-requires c = (c.requires, replicate-blank 16512 (omega arith), length-replicate {A = ℕ} 16512 0)

@@ -1,0 +1,30 @@
+-- `read_tour` meets its contract. Where there is no tour nothing is written; where there is one, its lists stand in the text and have
+-- room, and each is written over the front of its buffer.
+use Rattle.drawn.proofs.Drafting.{drawn, stem-stands, cycle-stands, runin-written, loop-written, none_written}
+use Rattle.drawn.proofs.read_tour.Goals as goal
+
+pub returns-in_default : goal.returns-in_default
+returns-in_default c =
+    let e = c.in_default.is in (
+      drawn _ _ _ _ c.line_with-at.ensures _ c.draft_at-draft.ensures _ c.drawn_of-drawn.ensures,
+      (none_written _ _ e _ _, none_written _ _ e _ _),
+    )
+
+pub put_list-requires : goal.put_list-requires
+put_list-requires c =
+    stem-stands _ _ _ _ c.line_with-at.ensures _ c.draft_at-draft.ensures _ c.drawn_of-drawn.ensures _ c.in-Tour.is
+
+pub put_list-requires-2 : goal.put_list-requires-2
+put_list-requires-2 c =
+    cycle-stands _ _ _ _ c.line_with-at.ensures _ c.draft_at-draft.ensures _ c.drawn_of-drawn.ensures _ c.in-Tour.is
+
+pub returns : goal.returns
+returns c =
+    let b = c.line_with-at.ensures in
+    let e = c.in-Tour.is in (
+      drawn _ _ _ _ b _ c.draft_at-draft.ensures _ c.drawn_of-drawn.ensures,
+      (
+        runin-written _ _ _ _ b _ c.draft_at-draft.ensures _ c.drawn_of-drawn.ensures _ e _ _ c.put_list.ensures,
+        loop-written _ _ _ _ b _ c.draft_at-draft.ensures _ c.drawn_of-drawn.ensures _ e _ _ c.put_list-2.ensures,
+      ),
+    )

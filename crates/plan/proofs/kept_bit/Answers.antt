@@ -1,0 +1,9 @@
+-- `kept_bit` meets its contract: a shift and a mask read one bit.
+use mathlib.Core.Path.{sym, ◌∙◌}
+use native.Mathlib.Omega.{arith}
+use lib.Bits.{and_mask}
+use Rattle.base.proofs.Bits.{bit-shift, bit-lt}
+use Rattle.plan.proofs.kept_bit.Goals as goal
+
+pub returns : goal.returns
+returns c = let e = and_mask _ 1 ∙ sym (bit-shift c.args.kept c.args.i) in (e, omega (arith, e, bit-lt c.args.kept c.args.i))

@@ -1,0 +1,27 @@
+-- `read_answer` meets its contract. On a refusal nothing is written; where a record was read, its lists stand in the text and have
+-- room, and each is written over the front of its buffer.
+use Rattle.readback.proofs.Judging.{replied, stem-stands, cycle-stands, runin-written, loop-written, none_written}
+use Rattle.readback.proofs.read_answer.Goals as goal
+
+pub returns-in_default : goal.returns-in_default
+returns-in_default c =
+    let e = c.in_default.is in
+    (replied _ _ _ _ c.read_lines-draft.ensures _ c.reply_of-reply.ensures, (none_written _ _ e _ _, none_written _ _ e _ _))
+
+pub put_list-requires : goal.put_list-requires
+put_list-requires c =
+    stem-stands _ _ _ _ c.read_lines-draft.ensures _ c.reply_of-reply.ensures _ c.in-Read.is
+
+pub put_list-requires-2 : goal.put_list-requires-2
+put_list-requires-2 c =
+    cycle-stands _ _ _ _ c.read_lines-draft.ensures _ c.reply_of-reply.ensures _ c.in-Read.is
+
+pub returns : goal.returns
+returns c =
+    let e = c.in-Read.is in (
+      replied _ _ _ _ c.read_lines-draft.ensures _ c.reply_of-reply.ensures,
+      (
+        runin-written _ _ _ _ c.read_lines-draft.ensures _ c.reply_of-reply.ensures _ e _ _ c.put_list.ensures,
+        loop-written _ _ _ _ c.read_lines-draft.ensures _ c.reply_of-reply.ensures _ e _ _ c.put_list-2.ensures,
+      ),
+    )

@@ -1,0 +1,34 @@
+-- `label_block` meets its contract. The loop keeps that the labels read so far and the lines still to be read make up the block.
+use mathlib.Core.Path.{◌≡◌}
+use mathlib.Core.List.{List}
+use Prim.Native.Nat.{ℕ, ◌-◌, ◌≤◌}
+use native.Mathlib.Omega.{arith}
+use Rattle.reader.specs.Blocks.{label_step, label_block}
+use Rattle.text.specs.declared.line.Line.{Line}
+use Rattle.reader.proofs.Filling.{rest, rest-step, rest_end}
+use Rattle.reader.proofs.Steps.{labels_in, labels-start, label-step}
+use borrow.Author.Rules.{rules}
+use Rattle.reader.proofs.block.label_block.Goals as goal
+
+record Read (s : List ℕ) (n bound : ℕ) (prior line : Line) (labels : List ℕ) (i : ℕ) : Type 0 where
+  pub within : i ≤ n
+  pub room : n ≤ 128
+  pub bytes : bound ≤ 256
+  pub same : label_block s prior n bound ≡ rest n (label_step s bound) i (labels_in line labels)
+
+pub loop-i-init : goal.loop-i-init
+loop-i-init c = record { within = omega arith; room = search rules; bytes = search rules; same = labels-start _ _ _ _ }
+
+pub loop-i-preserved : goal.loop-i-preserved
+loop-i-preserved c =
+    let l = c.loop-i in
+    record {
+      within = omega arith;
+      room = l.invariant.room;
+      bytes = l.invariant.bytes;
+      same = rest-step _ _ _ _ _ l.invariant.same c.loop-i-test.true _
+          (label-step _ _ _ _ _ l.labels _ c.line_of_one-line.ensures.same c.first_of.ensures);
+    }
+
+pub returns : goal.returns
+returns c = rest_end _ _ _ _ _ c.loop-i.invariant.same c.loop-i-test.false

@@ -1,0 +1,57 @@
+-- `move_block` meets its contract. The loop keeps that the moves read so far and the lines still to be read make up the block.
+use mathlib.Core.Path.{◌≡◌}
+use mathlib.Core.List.{List}
+use Prim.Native.Nat.{ℕ, ◌-◌, ◌≤◌}
+use native.Mathlib.Omega.{arith}
+use Rattle.reader.specs.Blocks.{move_step, move_block}
+use Rattle.text.specs.declared.line.Line.{Line}
+use Rattle.reader.proofs.Lines.{byte}
+use Rattle.reader.proofs.Filling.{rest, rest-step, rest_end}
+use Rattle.reader.proofs.Steps.{moves_in, moves-start, move-step}
+use borrow.Author.Rules.{rules}
+use Rattle.reader.proofs.block.move_block.Goals as goal
+
+record Read (s : List ℕ) (n states labels : ℕ) (prior line : Line) (from need bar any to : List ℕ) (i : ℕ) : Type 0 where
+  pub within : i ≤ n
+  pub room : n ≤ 64
+  pub state-bytes : states ≤ 256
+  pub label-bytes : labels ≤ 256
+  pub same : move_block s prior n states labels ≡ rest n (move_step s states labels) i (moves_in line from need bar any to)
+
+pub loop-i-init : goal.loop-i-init
+loop-i-init c = record { within = omega arith; room = search rules; state-bytes = search rules; label-bytes = search rules; same = moves-start _ _ _ _ _ }
+
+pub overflow_cast-from : goal.overflow_cast-from
+overflow_cast-from c =
+    record { fits = byte (λ xs. xs.first) _ _ _ c.Numbers-of.ensures c.move_line-line.ensures.first-low c.loop-i.invariant.state-bytes }
+
+pub overflow_cast-need : goal.overflow_cast-need
+overflow_cast-need c =
+    record { fits = byte (λ xs. xs.second) _ _ _ c.Numbers-of.ensures c.move_line-line.ensures.second-low c.loop-i.invariant.label-bytes }
+
+pub overflow_cast-bar : goal.overflow_cast-bar
+overflow_cast-bar c =
+    record { fits = byte (λ xs. xs.third) _ _ _ c.Numbers-of.ensures c.move_line-line.ensures.third-low c.loop-i.invariant.label-bytes }
+
+pub overflow_cast-any : goal.overflow_cast-any
+overflow_cast-any c =
+    record { fits = byte (λ xs. xs.fourth) _ _ _ c.Numbers-of.ensures c.move_line-line.ensures.fourth-low c.loop-i.invariant.label-bytes }
+
+pub overflow_cast-to : goal.overflow_cast-to
+overflow_cast-to c =
+    record { fits = byte (λ xs. xs.fifth) _ _ _ c.Numbers-of.ensures c.move_line-line.ensures.fifth-low c.loop-i.invariant.state-bytes }
+
+pub loop-i-preserved : goal.loop-i-preserved
+loop-i-preserved c =
+    let l = c.loop-i in
+    record {
+      within = omega arith;
+      room = l.invariant.room;
+      state-bytes = l.invariant.state-bytes;
+      label-bytes = l.invariant.label-bytes;
+      same = rest-step _ _ _ _ _ l.invariant.same c.loop-i-test.true _
+          (move-step _ _ _ _ _ _ l.from l.need l.bar l.any l.to _ c.move_line-line.ensures.same c.Numbers-of.ensures);
+    }
+
+pub returns : goal.returns
+returns c = rest_end _ _ _ _ _ c.loop-i.invariant.same c.loop-i-test.false

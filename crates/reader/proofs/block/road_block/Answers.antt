@@ -1,0 +1,67 @@
+-- `road_block` meets its contract. The loop keeps that the roads read so far and the lines still to be read make up the block, and that, as long
+-- as no line has a fault, the pairs noted are those read so far.
+use mathlib.Core.Path.{◌≡◌, ◌∙◌}
+use mathlib.Core.Bool.{true}
+use mathlib.Core.List.{List}
+use Prim.Native.Nat.{ℕ, ◌-◌, ◌≤◌}
+use native.Mathlib.Omega.{arith}
+use lib.ListN.{length, replicate}
+use Rattle.text.specs.Line.{good}
+use Rattle.text.specs.declared.line.Line.{Line}
+use Rattle.reader.specs.Pairs.{Noted}
+use Rattle.reader.specs.Blocks.{earlier, road_step, road_block}
+use Rattle.reader.proofs.Lines.{byte}
+use Rattle.reader.proofs.Filling.{rest, rest-step, rest_end}
+use Rattle.reader.proofs.Steps.{roads_in, roads-start, road-step}
+use Rattle.reader.proofs.Noting.{noted-start, noted-after, road-by}
+use borrow.Author.Rules.{rules}
+use Rattle.reader.proofs.block.road_block.Goals as goal
+
+record Read (s : List ℕ) (n bound : ℕ) (prior line : Line) (from to pairs : List ℕ) (i : ℕ) : Type 0 where
+  pub within : i ≤ n
+  pub room : n ≤ 1024
+  pub bytes : bound ≤ 128
+  pub from-room : length from ≡ 1024
+  pub to_room : length to ≡ 1024
+  pub pairs-room : length pairs ≡ 512
+  pub noted : good line ≡ true → Noted pairs (earlier (roads_in line from to) i)
+  pub same : road_block s prior n bound ≡ rest n (road_step s bound) i (roads_in line from to)
+
+}
+
+pub loop-i-init : goal.loop-i-init
+loop-i-init c = record {
+  within = omega arith;
+  room = search rules;
+  bytes = search rules;
+  from-room = search rules;
+  to_room = search rules;
+  pairs-room = search rules;
+  noted = λ e. noted-start c.args.prior (replicate 1024 0) (replicate 1024 0);
+  same = roads-start _ _ _ _;
+
+pub overflow_cast-from : goal.overflow_cast-from
+overflow_cast-from c =
+    record { fits = byte (λ xs. xs.first) _ _ _ c.Numbers-of.ensures c.road_line-line.ensures.first-low (omega (arith, c.loop-i.invariant.bytes)) }
+
+pub overflow_cast-to : goal.overflow_cast-to
+overflow_cast-to c =
+    record { fits = byte (λ xs. xs.second) _ _ _ c.Numbers-of.ensures c.road_line-line.ensures.second-low (omega (arith, c.loop-i.invariant.bytes)) }
+
+pub loop-i-preserved : goal.loop-i-preserved
+loop-i-preserved c =
+    let l = c.loop-i in let r = c.road_line-line.ensures in
+    record {
+      within = omega arith;
+      room = l.invariant.room;
+      bytes = l.invariant.bytes;
+      from-room = search rules;
+      to_room = search rules;
+      pairs-room = search rules;
+      noted = noted-after _ _ _ _ _ _ l.from l.to _ _ _ _ l.invariant.bytes l.invariant.noted l.invariant.pairs-room (omega arith) (omega arith) r c.Numbers-of.ensures;
+      same = rest-step _ _ _ _ _ l.invariant.same c.loop-i-test.true _
+          (road-step _ _ _ _ _ l.from l.to _ (r.same ∙ road-by _ _ _ _ _ _ l.invariant.bytes l.invariant.noted) c.Numbers-of.ensures);
+    }
+
+pub returns : goal.returns
+returns c = rest_end _ _ _ _ _ c.loop-i.invariant.same c.loop-i-test.false

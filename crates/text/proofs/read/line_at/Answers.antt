@@ -1,0 +1,39 @@
+-- `line_at` meets its contract. The loop keeps that `line` and the line ends still to be passed make up the line's number;
+-- `line` is at most i + 1, so it does not wrap.
+use mathlib.Core.Path.{◌≡◌}
+use mathlib.Core.List.{List}
+use Prim.Native.Nat.{ℕ, ◌+◌, ◌-◌, ◌≤◌}
+use native.Mathlib.Omega.{arith}
+use lib.ListN.{take, drop}
+use Rattle.text.specs.Scan.{newlines, line_at}
+use Rattle.text.proofs.Newlines.{line-start, newlines-more, newlines-past, newlines-done}
+use Rattle.text.proofs.read.line_at.Goals as goal
+
+record Counted (s : List ℕ) (at i line : ℕ) : Type 0 where
+  pub within : i ≤ at
+  pub small : line ≤ i + 1
+  -- what is left to count makes up the line's number
+  pub same : line_at s at ≡ line + newlines (take (at - i) (drop i s))
+
+pub loop-i-init : goal.loop-i-init
+loop-i-init c = record { within = omega arith; small = omega arith; same = line-start _ _ }
+
+pub returns-then-s-i : goal.returns-then-s-i
+returns-then-s-i c =
+    let a = c.args in
+    omega (arith, c.loop-i.invariant.same, newlines-past a.s.now a.at c.loop-i.i c.if-s-i.true)
+
+pub loop-i-preserved : goal.loop-i-preserved
+loop-i-preserved c =
+    let a = c.args in
+    let n = newlines-more a.s.now a.at c.loop-i.i c.loop-i-test.true c.if-s-i.false in
+    record {
+      within = omega arith;
+      small = omega (arith, c.loop-i.invariant.small);
+      same = omega (arith, c.loop-i.invariant.same, c.newline-line.ensures.0);
+    }
+
+pub returns : goal.returns
+returns c =
+    let a = c.args in
+    omega (arith, c.loop-i.invariant.same, newlines-done a.s.now a.at c.loop-i.i c.loop-i-test.false)

@@ -1,0 +1,10 @@
+-- `newline` meets its contract: each return is one case of the definition's test.
+use native.Mathlib.Omega.{arith}
+use borrow.Author.Tests.{eq-eqb, ne_eqb}
+use Rattle.text.proofs.read.newline.Goals as goal
+
+pub returns-then-b-eq10 : goal.returns-then-b-eq10
+returns-then-b-eq10 c = (rw (eq-eqb _ _ c.if-b-eq10.true), omega arith)
+
+pub returns-else-b-eq10 : goal.returns-else-b-eq10
+returns-else-b-eq10 c = (rw (ne_eqb _ _ c.if-b-eq10.false), omega arith)

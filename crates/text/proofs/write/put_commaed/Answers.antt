@@ -1,0 +1,66 @@
+-- `put_commaed` meets its contract. What is left to write at a turn are the numbers from `i` on, each behind a comma: a turn
+-- writes a comma and the first of them.
+use mathlib.Core.Path.{◌≡◌}
+use mathlib.Core.List.{List, [], ◌∷◌, ◌++◌}
+use Prim.Native.Nat.{ℕ, ◌+◌, ◌-◌, ◌≤◌, ◌<◌}
+use native.Mathlib.Omega.{arith}
+use lib.ListN.{length, drop, get_or, drop_of_length-le}
+use Rattle.text.specs.Decimal.{decimal}
+use Rattle.text.specs.Over.{Wrote, Left}
+use Rattle.text.specs.KeyLine.{commaed}
+use Rattle.text.proofs.Overs.{left-start, left-room, left-next, left_end}
+use Rattle.text.proofs.KeyLines.{commaed-next}
+use Rattle.text.proofs.write.put_commaed.Goals as goal
+
+module _ {b : List ℕ} {at : ℕ} {text out : List ℕ} {next : ℕ} (numbers : List ℕ) (i : ℕ) where
+  module _ (h : i < length numbers) (l : Left b at text out next (commaed (drop i numbers))) where
+    from-comma : Left b at text out next
+        ((44 ∷ []) ++ (decimal (get_or numbers i 0) ++ commaed (drop (i + 1) numbers)))
+    from-comma = rw (commaed-next numbers i h) at l
+
+    comma-room : next < length out
+    comma-room = omega (arith, left-room (44 ∷ []) _ from-comma)
+
+    module _ {out₁ : List ℕ} {next₁ : ℕ} (comma : Wrote out next (44 ∷ []) out₁ next₁) where
+      from-number : Left b at text out₁ next₁ (decimal (get_or numbers i 0) ++ commaed (drop (i + 1) numbers))
+      from-number = left-next (44 ∷ []) _ from-comma comma
+
+      number-room : next₁ + length (decimal (get_or numbers i 0)) ≤ length out₁
+      number-room = left-room (decimal (get_or numbers i 0)) _ from-number
+
+      turn : {x : ℕ} {out₂ : List ℕ} {next₂ : ℕ} → x ≡ get_or numbers i 0 → Wrote out₁ next₁ (decimal x) out₂ next₂
+          → Left b at text out₂ next₂ (commaed (drop (i + 1) numbers))
+      turn e number = left-next (decimal (get_or numbers i 0)) _ from-number (rw e at number)
+
+  end : length numbers ≤ i → Left b at text out next (commaed (drop i numbers)) → Wrote b at text out next
+  unfolding commaed
+  end h l = left_end (rw (drop_of_length-le numbers h) at l)
+
+pub loop-i-init : goal.loop-i-init
+loop-i-init c =
+    let a = c.args in
+    (omega arith, left-start a.out.now a.at (commaed a.numbers.now) c.requires)
+
+pub put_byte-number-requires : goal.put_byte-number-requires
+put_byte-number-requires c =
+    comma-room c.args.numbers.now c.loop-i.i c.loop-i-test.true c.loop-i.invariant.1
+
+pub put_decimal-next-requires : goal.put_decimal-next-requires
+put_decimal-next-requires c =
+    rw c.wide.ensures
+    (number-room c.args.numbers.now c.loop-i.i c.loop-i-test.true c.loop-i.invariant.1 c.put_byte-number.ensures)
+
+pub loop-i-preserved : goal.loop-i-preserved
+loop-i-preserved c =
+    (
+      omega arith,
+      turn c.args.numbers.now c.loop-i.i c.loop-i-test.true c.loop-i.invariant.1 c.put_byte-number.ensures
+          c.wide.ensures
+          c.put_decimal-next.ensures,
+    )
+
+pub shape_of-out : goal.shape_of-out
+shape_of-out c = c.loop-i.invariant.1.size
+
+pub returns : goal.returns
+returns c = end c.args.numbers.now c.loop-i.i c.loop-i-test.false c.loop-i.invariant.1
