@@ -1,18 +1,9 @@
 -- `line_with` meets its contract. The loop keeps that the search from its byte on decides; each return is one case of the search.
-use mathlib.Core.Path.{◌≡◌, sym, ◌∙◌}
-use mathlib.Core.Bool.{Bool, true}
-use mathlib.Core.List.{List}
-use Prim.Native.Nat.{ℕ, ◌-◌, ◌≤◌}
+use mathlib.Core.Path.{sym, ◌∙◌}
+use Prim.Native.Nat.{◌-◌}
 use native.Mathlib.Omega.{arith}
-use lib.ListN.{length, drop}
-use Rattle.drawn.specs.Drawing.{line_with}
 use Rattle.drawn.proofs.Seeking.{with-here, with-on, with-past}
 use Rattle.drawn.proofs.line_with.Goals as goal
-
-record Sought (s key : List ℕ) (fresh : Bool) (i : ℕ) : Type 0 where
-  pub within : i ≤ length s
-  -- what is left to search decides
-  pub same : line_with key true 0 s ≡ line_with key fresh i (drop i s)
 
 pub returns-then-begins : goal.returns-then-begins
 returns-then-begins c =

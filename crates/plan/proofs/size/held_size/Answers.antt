@@ -1,22 +1,12 @@
 -- `held_size` meets its contract. The loop keeps that n is the product of the factors passed, held at 2,049.
 use mathlib.Core.Path.{◌≡◌, refl, ap, ◌∙◌}
-use mathlib.Core.List.{List}
-use Prim.Native.Nat.{ℕ, ◌+◌, ◌-◌, ◌*◌, ◌≤◌, min}
+use Prim.Native.Nat.{ℕ, ◌+◌, ◌-◌, ◌*◌, min}
 use native.Mathlib.Omega.{arith}
-use lib.ListN.{get_or}
 use Rattle.base.specs.Below.{product_below}
-use Rattle.automata.specs.declared.Automaton.{Automaton}
 use Rattle.automata.specs.WellFormed.{no_automaton}
 use Rattle.plan.specs.WellFormed.{soft}
 use Rattle.plan.proofs.Products.{product-none, product-more, size-whole, states-default}
-use borrow.Author.Rules.{rules}
 use Rattle.plan.proofs.size.held_size.Goals as goal
-
-record Grown (rules n₀ : ℕ) (soft : List Automaton) (n i : ℕ) : Type 0 where
-  pub within : i ≤ rules
-  pub room : rules ≤ 8
-  pub small : n ≤ 2049
-  pub held : n ≡ min (n₀ * product_below i (λ k. (get_or soft k no_automaton).states + 1)) 2049
 
 pub loop-i-init : goal.loop-i-init
 loop-i-init c =

@@ -1,20 +1,10 @@
 -- `label_block` meets its contract. The loop keeps that the labels read so far and the lines still to be read make up the block.
-use mathlib.Core.Path.{◌≡◌}
-use mathlib.Core.List.{List}
-use Prim.Native.Nat.{ℕ, ◌-◌, ◌≤◌}
+use Prim.Native.Nat.{◌-◌}
 use native.Mathlib.Omega.{arith}
-use Rattle.reader.specs.Blocks.{label_step, label_block}
-use Rattle.text.specs.declared.line.Line.{Line}
-use Rattle.reader.proofs.Filling.{rest, rest-step, rest_end}
-use Rattle.reader.proofs.Steps.{labels_in, labels-start, label-step}
+use Rattle.reader.proofs.Filling.{rest-step, rest_end}
+use Rattle.reader.proofs.Steps.{labels-start, label-step}
 use borrow.Author.Rules.{rules}
 use Rattle.reader.proofs.block.label_block.Goals as goal
-
-record Read (s : List ℕ) (n bound : ℕ) (prior line : Line) (labels : List ℕ) (i : ℕ) : Type 0 where
-  pub within : i ≤ n
-  pub room : n ≤ 128
-  pub bytes : bound ≤ 256
-  pub same : label_block s prior n bound ≡ rest n (label_step s bound) i (labels_in line labels)
 
 pub loop-i-init : goal.loop-i-init
 loop-i-init c = record { within = omega arith; room = search rules; bytes = search rules; same = labels-start _ _ _ _ }

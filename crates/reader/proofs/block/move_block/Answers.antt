@@ -1,22 +1,11 @@
 -- `move_block` meets its contract. The loop keeps that the moves read so far and the lines still to be read make up the block.
-use mathlib.Core.Path.{◌≡◌}
-use mathlib.Core.List.{List}
-use Prim.Native.Nat.{ℕ, ◌-◌, ◌≤◌}
+use Prim.Native.Nat.{◌-◌}
 use native.Mathlib.Omega.{arith}
-use Rattle.reader.specs.Blocks.{move_step, move_block}
-use Rattle.text.specs.declared.line.Line.{Line}
 use Rattle.reader.proofs.Lines.{byte}
-use Rattle.reader.proofs.Filling.{rest, rest-step, rest_end}
-use Rattle.reader.proofs.Steps.{moves_in, moves-start, move-step}
+use Rattle.reader.proofs.Filling.{rest-step, rest_end}
+use Rattle.reader.proofs.Steps.{moves-start, move-step}
 use borrow.Author.Rules.{rules}
 use Rattle.reader.proofs.block.move_block.Goals as goal
-
-record Read (s : List ℕ) (n states labels : ℕ) (prior line : Line) (from need bar any to : List ℕ) (i : ℕ) : Type 0 where
-  pub within : i ≤ n
-  pub room : n ≤ 64
-  pub state-bytes : states ≤ 256
-  pub label-bytes : labels ≤ 256
-  pub same : move_block s prior n states labels ≡ rest n (move_step s states labels) i (moves_in line from need bar any to)
 
 pub loop-i-init : goal.loop-i-init
 loop-i-init c = record { within = omega arith; room = search rules; state-bytes = search rules; label-bytes = search rules; same = moves-start _ _ _ _ _ }

@@ -1,31 +1,15 @@
 -- `road_block` meets its contract. The loop keeps that the roads read so far and the lines still to be read make up the block, and that, as long
 -- as no line has a fault, the pairs noted are those read so far.
-use mathlib.Core.Path.{◌≡◌, ◌∙◌}
-use mathlib.Core.Bool.{true}
-use mathlib.Core.List.{List}
-use Prim.Native.Nat.{ℕ, ◌-◌, ◌≤◌}
+use mathlib.Core.Path.{◌∙◌}
+use Prim.Native.Nat.{◌-◌}
 use native.Mathlib.Omega.{arith}
-use lib.ListN.{length, replicate}
-use Rattle.text.specs.Line.{good}
-use Rattle.text.specs.declared.line.Line.{Line}
-use Rattle.reader.specs.Pairs.{Noted}
-use Rattle.reader.specs.Blocks.{earlier, road_step, road_block}
+use lib.ListN.{replicate}
 use Rattle.reader.proofs.Lines.{byte}
-use Rattle.reader.proofs.Filling.{rest, rest-step, rest_end}
-use Rattle.reader.proofs.Steps.{roads_in, roads-start, road-step}
+use Rattle.reader.proofs.Filling.{rest-step, rest_end}
+use Rattle.reader.proofs.Steps.{roads-start, road-step}
 use Rattle.reader.proofs.Noting.{noted-start, noted-after, road-by}
 use borrow.Author.Rules.{rules}
 use Rattle.reader.proofs.block.road_block.Goals as goal
-
-record Read (s : List ℕ) (n bound : ℕ) (prior line : Line) (from to pairs : List ℕ) (i : ℕ) : Type 0 where
-  pub within : i ≤ n
-  pub room : n ≤ 1024
-  pub bytes : bound ≤ 128
-  pub from-room : length from ≡ 1024
-  pub to_room : length to ≡ 1024
-  pub pairs-room : length pairs ≡ 512
-  pub noted : good line ≡ true → Noted pairs (earlier (roads_in line from to) i)
-  pub same : road_block s prior n bound ≡ rest n (road_step s bound) i (roads_in line from to)
 
 }
 

@@ -48,12 +48,6 @@ module _ (s : List ℕ) (at : ℕ) (key : List ℕ) where
   unfolding key_at
   key-read e i k = rw (e, k)
 
-record Matched (s : List ℕ) (at : ℕ) (key : List ℕ) (j : ℕ) : Type 0 where
-  pub within : j ≤ length key
-  pub room : at + length key ≤ length s
-  -- what is left to compare decides
-  pub same : starts_with key (drop at s) ≡ starts_with (drop j key) (drop (at + j) s)
-
 pub returns-then-key-eq0 : goal.returns-then-key-eq0
 returns-then-key-eq0 c =
     let a = c.args in

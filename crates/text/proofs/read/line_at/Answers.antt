@@ -1,19 +1,9 @@
 -- `line_at` meets its contract. The loop keeps that `line` and the line ends still to be passed make up the line's number;
 -- `line` is at most i + 1, so it does not wrap.
-use mathlib.Core.Path.{◌≡◌}
-use mathlib.Core.List.{List}
-use Prim.Native.Nat.{ℕ, ◌+◌, ◌-◌, ◌≤◌}
+use Prim.Native.Nat.{◌-◌}
 use native.Mathlib.Omega.{arith}
-use lib.ListN.{take, drop}
-use Rattle.text.specs.Scan.{newlines, line_at}
 use Rattle.text.proofs.Newlines.{line-start, newlines-more, newlines-past, newlines-done}
 use Rattle.text.proofs.read.line_at.Goals as goal
-
-record Counted (s : List ℕ) (at i line : ℕ) : Type 0 where
-  pub within : i ≤ at
-  pub small : line ≤ i + 1
-  -- what is left to count makes up the line's number
-  pub same : line_at s at ≡ line + newlines (take (at - i) (drop i s))
 
 pub loop-i-init : goal.loop-i-init
 loop-i-init c = record { within = omega arith; small = omega arith; same = line-start _ _ }

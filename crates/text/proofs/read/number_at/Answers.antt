@@ -2,22 +2,13 @@
 -- first byte that is no digit, and at the end of the text, `number_at` is computed from both.
 use mathlib.Core.Path.{◌≡◌, sym, ◌∙◌}
 use mathlib.Core.Bool.{false}
-use mathlib.Core.List.{List}
-use Prim.Native.Nat.{ℕ, ◌+◌, ◌-◌, ◌≤◌, min}
+use Prim.Native.Nat.{◌-◌}
 use native.Mathlib.Omega.{arith}
 use lib.ListN.{drop, get_or}
 use borrow.Author.Tests.{not-true, not-false}
-use Rattle.text.specs.Scan.{is_digit, digit_count, value}
+use Rattle.text.specs.Scan.{is_digit, digit_count}
 use Rattle.text.proofs.Scans.{digit-range, none-past, none_here, value-here, digit-count-more, held-value, ends-text, ends-otherwise, not-canonical, number_read}
 use Rattle.text.proofs.read.number_at.Goals as goal
-
-record Scanned (s : List ℕ) (at i v : ℕ) : Type 0 where
-  pub from : at ≤ i
-  -- the bytes passed are digits
-  pub count : digit_count (drop at s) ≡ (i - at) + digit_count (drop i s)
-  -- v is their value, held
-  pub held : min (value 0 (drop at s)) 4000000000 ≡ min (value v (drop i s)) 4000000000
-  pub small : v ≤ 4000000000
 
 -- the byte is no digit, and the digits passed are all that stand there
 module _ (c : goal.Then-not-digit) where
