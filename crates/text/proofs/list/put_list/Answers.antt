@@ -4,7 +4,7 @@ use Rattle.text.proofs.Spelling.{put-start, put_next, put-there, put-end}
 use Rattle.text.proofs.list.put_list.Goals as goal
 
 pub loop-n-init : goal.loop-n-init
-loop-n-init c = put-start _ _ _ c.requires.0 _ c.requires.1
+loop-n-init c = put-start _ _ _ c.requires.stands _ c.requires.count_in_bounds
 
 pub returns-in_default : goal.returns-in_default
 returns-in_default c =

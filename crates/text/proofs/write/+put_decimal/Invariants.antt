@@ -1,0 +1,5 @@
+-- `put_decimal` ends because a number from ten on has a smaller tenth.
+use Rattle.text.proofs.write.+put_decimal.Given as goal
+
+abbrev pub decreases-put_decimal : goal.decreases-put_decimal
+decreases-put_decimal l = l.x
