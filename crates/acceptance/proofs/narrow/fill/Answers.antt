@@ -11,7 +11,7 @@ loop-v-init c =
     (tabled_start a.steps.now a.n a.sets.now, omega arith, c.requires.0)
 
 pub loop-v-preserved : goal.loop-v-preserved
-loop-v-preserved c = let f = c.fill_place in (f.ensures, omega arith, omega (arith, f.kept))
+loop-v-preserved c = let f = c.fill_place in (f.ensures, omega arith, omega (arith, f.auto))
 
 pub returns : goal.returns
 returns c =

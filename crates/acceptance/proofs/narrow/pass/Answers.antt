@@ -20,7 +20,7 @@ loop-i-init c =
       going_start a.steps.now a.n c.requires.1 c.requires.4 a.accept a.cycle.now (a.q + 2) c.begun-c.ensures,
       going_start a.steps.now a.n c.requires.1 c.requires.4 a.accept a.cycle.now (a.q + 3) c.begun-d.ensures,
       omega arith,
-      omega (arith, c.well-formed.1.1.1.1.1.0),
+      omega (arith, c.well_formed.1.1.1.1.1.0),
     )
 
 pub row_of-at-requires : goal.row_of-at-requires

@@ -12,28 +12,28 @@ loop-left-init c = gathering-start c.args.table.now c.args.at c.args.set c.requi
 
 pub overflow_cast-q : goal.overflow_cast-q
 overflow_cast-q c =
-    let low : count_trailing_zeros 64 c.loop-left.false < 32 = let a = c.args in
+    let low : count_trailing_zeros 64 c.loop-left.left < 32 = let a = c.args in
     let l = c.loop-left in
     lowest-inside a.table.now a.at a.set l.out l.left c.loop-left-test.true l.invariant in
     search (rules, low)
 
 pub overflow_add-out : goal.overflow_add-out
 overflow_add-out c =
-    let low : count_trailing_zeros 64 c.loop-left.false < 32 = let a = c.args in
+    let low : count_trailing_zeros 64 c.loop-left.left < 32 = let a = c.args in
     let l = c.loop-left in
     lowest-inside a.table.now a.at a.set l.out l.left c.loop-left-test.true l.invariant in
     search (rules, low, c.requires.1)
 
 pub offset_bounds-table-at : goal.offset_bounds-table-at
 offset_bounds-table-at c =
-    let low : count_trailing_zeros 64 c.loop-left.false < 32 = let a = c.args in
+    let low : count_trailing_zeros 64 c.loop-left.left < 32 = let a = c.args in
     let l = c.loop-left in
     lowest-inside a.table.now a.at a.set l.out l.left c.loop-left-test.true l.invariant in
     search (rules, low, c.requires.1)
 
 pub bounds-table-at : goal.bounds-table-at
 bounds-table-at c =
-    let low : count_trailing_zeros 64 c.loop-left.false < 32 = let a = c.args in
+    let low : count_trailing_zeros 64 c.loop-left.left < 32 = let a = c.args in
     let l = c.loop-left in
     lowest-inside a.table.now a.at a.set l.out l.left c.loop-left-test.true l.invariant in
     omega (arith, low, c.requires.1)
