@@ -5,10 +5,6 @@ use native.Mathlib.Omega.{arith}
 use Rattle.besttour.proofs.Steps.{none_told, mask-small, drive-asks, lengths-small, tour-told}
 use Rattle.besttour.proofs.drive_best.Goals as goal
 
--- the component that is chosen is that of a node
-node : (c : goal.Else-n-node) → c.args.t.node < c.args.p.places * c.args.s
-node c = omega (arith, c.if-n-node.false, c.requires.0)
-
 pub returns-then-n-node : goal.returns-then-n-node
 returns-then-n-node c =
     let p = c.requires in
@@ -16,17 +12,20 @@ returns-then-n-node c =
 
 pub drive-lengths-requires : goal.drive-lengths-requires
 drive-lengths-requires c =
+    let node : c.args.t.node < c.args.p.places * c.args.s = omega (arith, c.if-n-node.false, c.requires.0) in
     let p = c.requires in
-    let a = drive-asks p.1 p.2 (node c) p.3 in
+    let a = drive-asks p.1 p.2 node p.3 in
     (a.0, a.1, p.4.stem, p.4.cycle)
 
 pub tour_answer-requires : goal.tour_answer-requires
 tour_answer-requires c =
+    let node : c.args.t.node < c.args.p.places * c.args.s = omega (arith, c.if-n-node.false, c.requires.0) in
     let p = c.requires in
-    let l = lengths-small p.1 p.2 (node c) _ _ _ _ _ _ c.drive-lengths.ensures in
-    (p.1.ok, omega (arith, c.kept_of.ensures, mask-small p.1 p.2 (node c)), omega (arith, l.0, l.1), omega (arith, l.0, l.1))
+    let l = lengths-small p.1 p.2 node _ _ _ _ _ _ c.drive-lengths.ensures in
+    (p.1.ok, omega (arith, c.kept_of.ensures, mask-small p.1 p.2 node), omega (arith, l.0, l.1), omega (arith, l.0, l.1))
 
 pub returns : goal.returns
 returns c =
+    let node : c.args.t.node < c.args.p.places * c.args.s = omega (arith, c.if-n-node.false, c.requires.0) in
     let p = c.requires in
-    tour-told p.1 p.2 (node c) _ _ _ _ _ _ c.drive-lengths.ensures _ c.kept_of.ensures _ c.tour_answer.ensures
+    tour-told p.1 p.2 node _ _ _ _ _ _ c.drive-lengths.ensures _ c.kept_of.ensures _ c.tour_answer.ensures

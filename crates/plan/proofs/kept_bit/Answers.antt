@@ -6,4 +6,4 @@ use Rattle.base.proofs.Bits.{bit-shift, bit-lt}
 use Rattle.plan.proofs.kept_bit.Goals as goal
 
 pub returns : goal.returns
-returns c = let e = and_mask _ 1 ∙ sym (bit-shift c.args.auto c.args.i) in (e, omega (arith, e, bit-lt c.args.auto c.args.i))
+returns c = let e = and_mask _ 1 ∙ sym (bit-shift c.args.kept c.args.i) in (e, omega (arith, e, bit-lt c.args.kept c.args.i))

@@ -1,25 +1,17 @@
 -- `tie_of` meets its contract. The loop's invariant is `Tying`: the digits of the rules before rule i.
 use native.Mathlib.Omega.{arith}
-use borrow.Author.Rules.{rules}
 use Prim.Native.Nat.{◌-◌}
-use Rattle.plan.proofs.Charging.{Tying, tying-start, tying-step, tying-end}
+use Rattle.plan.proofs.Charging.{tying-start, tying-step, tying-end}
 use Rattle.plan.proofs.tie_of.Goals as goal
-use Rattle.plan.proofs.tie_of.Tie as tie
-
-abbrev invariant-loop : tie.InvT-loop
-invariant-loop rules kept tie₀ i₀ tie i = Tying rules kept tie i
-
-abbrev decreases-loop : tie.MeasureT-loop
-decreases-loop rules kept tie₀ i₀ tie i = rules - i
 
 pub loop-i-init : goal.loop-i-init
-loop-i-init c = tying-start c.args.rules c.args.auto c.requires
+loop-i-init c = tying-start c.args.rules c.args.kept c.requires
 
 pub loop-i-preserved : goal.loop-i-preserved
 loop-i-preserved c =
     let a = c.args in
     let l = c.loop-i in
-    tying-step a.rules a.auto l.tie l.i c.left_out.result l.invariant (omega arith) c.left_out.ensures.0
+    tying-step a.rules a.kept l.tie l.i c.left_out.result l.invariant (omega arith) c.left_out.ensures.0
 
 pub returns : goal.returns
-returns c = let a = c.args in let l = c.loop-i in tying-end a.rules a.auto l.tie l.i l.invariant (omega arith)
+returns c = let a = c.args in let l = c.loop-i in tying-end a.rules a.kept l.tie l.i l.invariant (omega arith)

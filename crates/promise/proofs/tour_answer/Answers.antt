@@ -12,7 +12,7 @@ abbrev cost-answer : ℕ → ℕ → ℕ → ℕ → Answer
 cost-answer k s l x = record { number = 0; line = 0; cost = x; kept = k; count = ones k; stem = s; cycle = l }
 
 pub overflow_cast-result : goal.overflow_cast-result
-overflow_cast-result c = omega (arith, c.cost_of-cost.ensures.0, cost-small c.args.p c.requires.0 c.args.auto)
+overflow_cast-result c = omega (arith, c.cost_of-cost.ensures.0, cost-small c.args.p c.requires.0 c.args.kept)
 
 pub returns : goal.returns
-returns c = let a = c.args in ap (cost-answer a.auto a.stem a.cycle) c.cost_of-cost.ensures.0
+returns c = let a = c.args in ap (cost-answer a.kept a.stem a.cycle) c.cost_of-cost.ensures.0

@@ -49,8 +49,8 @@ bounds-exits-u c =
 
 pub loop-i-preserved : goal.loop-i-preserved
 loop-i-preserved c =
-    let a = (entered c).args in
-    let l = c.loop in
+    let a = c.args in
+    let l = c.loop-i in
     let cell = road_cell a.from.now a.to.now a.at in
     let left : ℕ → ℕ = λ k. get_or a.from.now k 0 in
     let next = mark-next cell l.i a.table.now l.table _ _ l.invariant.0 refl refl in

@@ -7,4 +7,4 @@ pub returns : goal.returns
 returns c =
     let a = c.args in
     decides a.steps.now a.n a.first a.accept a.stem.now a.cycle.now _ (omega (arith, c.requires.1)) c.requires.3 c.requires.4 c.turn.ensures
-    c.follow.result c.follow.ensures c.close_up.result c.close_up.ensures
+    c.follow-set.result c.follow-set.ensures c.close_up.result c.close_up.ensures

@@ -10,6 +10,6 @@ follow-set-requires c =
 pub returns : goal.returns
 returns c =
     let a = c.args in
-    let x = entered-few a.steps.now a.n a.first c.one.result c.follow.result a.stem.now c.requires.1 c.requires.2 c.requires.0 c.one.ensures.0 c.follow.ensures.0 in
-    decides a.steps.now a.n a.first a.accept a.stem.now a.cycle.now _ c.requires.1 c.requires.2 c.requires.0 c.turn.ensures c.follow.result x
+    let x = entered-few a.steps.now a.n a.first c.one.result c.follow-set.result a.stem.now c.requires.1 c.requires.2 c.requires.0 c.one.ensures.0 c.follow-set.ensures.0 in
+    decides a.steps.now a.n a.first a.accept a.stem.now a.cycle.now _ c.requires.1 c.requires.2 c.requires.0 c.turn.ensures c.follow-set.result x
     c.close_up.result c.close_up.ensures

@@ -56,8 +56,7 @@ returns-then-is_open c =
     let loop-stops : let a = c.args in Stopped (allowed a.p) (prior_of before a.stem.now (length a.stem.now)) a.cycle.now c.driven-j.result = charted-stopped c.requires.1 (rw c.before_loop.ensures at c.driven-j.ensures) in
     let loop-below : Below 128 c.args.cycle.now = let a = c.args in
     whole_below a.roads.now a.p.places c.requires.0.few _ a.cycle.now c.driven-j.result c.driven-j.ensures (omega arith) in
-    let loop-open : let a = (entered (c)).args in c.is_open.result ≡ not (closing a.p a.cycle.now) = let s = entered (c) in
-    c.is_open.ensures ∙ charted-closing s.requires.1 s.args.cycle.now loop-below in
+    let loop-open : let a = c.args in c.is_open.result ≡ not (closing a.p a.cycle.now) = c.is_open.ensures ∙ charted-closing c.requires.1 c.args.cycle.now loop-below in
     let a = c.args in
     told_at (length a.stem.now + length a.cycle.now) _
     (break-closing a.p c.requires.0 a.stem.now a.cycle.now c.driven-i.result stem-stops (omega arith) c.driven-j.result loop-stops
@@ -70,8 +69,7 @@ returns c =
     let loop-stops : let a = c.args in Stopped (allowed a.p) (prior_of before a.stem.now (length a.stem.now)) a.cycle.now c.driven-j.result = charted-stopped c.requires.1 (rw c.before_loop.ensures at c.driven-j.ensures) in
     let loop-below : Below 128 c.args.cycle.now = let a = c.args in
     whole_below a.roads.now a.p.places c.requires.0.few _ a.cycle.now c.driven-j.result c.driven-j.ensures (omega arith) in
-    let loop-open : let a = (entered (c)).args in c.is_open.result ≡ not (closing a.p a.cycle.now) = let s = entered (c) in
-    c.is_open.ensures ∙ charted-closing s.requires.1 s.args.cycle.now loop-below in
+    let loop-open : let a = c.args in c.is_open.result ≡ not (closing a.p a.cycle.now) = c.is_open.ensures ∙ charted-closing c.requires.1 c.args.cycle.now loop-below in
     let a = c.args in
     told-nowhere
     (break-none a.p c.requires.0 a.stem.now a.cycle.now c.driven-i.result stem-stops (omega arith) c.driven-j.result loop-stops

@@ -11,9 +11,6 @@ use Rattle.reader.proofs.Lines.{road-fault, road-bad, road-good, road-doubled, r
 use Rattle.reader.proofs.line.road_line.Goals as goal
 use Rattle.reader.proofs.line.road_line.Tie as tie
 
-abbrev judging : tie.After-noted-arg → goal.After-road_fits
-judging n = n.before.before.before.before
-
 -- where it is looked up its numbers fit, and both are those of places
 fitting : (n : tie.After-noted-arg) → road_fits (judging n).before.pair.result (start (beginning (judging n))).args.bound ≡ true
 fitting n = sym (judging n).road-fits.ensures ∙ n.before.before.before.if1.true
@@ -35,35 +32,32 @@ returns-in_default-b c =
     (c.bad_form.ensures ∙ road-bad _ _ _ _ _ c.in-Numbers.is _ _ (held-bad _ _ hb c.in_default-b.is)) refl
 
 pub noted-before-requires : goal.noted-before-requires
-noted-before-requires c = ((start (beginning (judging c))).requires.1, (places c).0, (places c).1)
+noted-before-requires c = (c.requires.1, (places c).0, (places c).1)
 
 pub note-requires : goal.note-requires
 note-requires c =
     let low = places c in
-    ((start (beginning (judging c))).requires.1, omega (arith, low.0, low.1), omega (arith, low.0, low.1))
+    (c.requires.1, omega (arith, low.0, low.1), omega (arith, low.0, low.1))
 
 pub returns-then-before : goal.returns-then-before
 returns-then-before c =
-    let j = judging c in let low = places c in
-    let p = j.before in let v = p.before in let e = v.before.before in let b = e.before.before in let a = b.before in let k = a.before in
-    let ha = first-held _ _ _ _ _ k.key-at.ensures a.next-number.ensures in
-    let hb = next-held _ _ _ _ _ ha b.next-number2.ensures in
-    let read = road-good _ _ _ _ _ (opened k).prior.given.1 (start k).args.bound (noted_of (start k).args.pairs.now) _ _ _ _
-    (omega (arith, (start k).requires.0)) (held-value _ _ _ ha v.value_of_lem.ensures) (held-told _ _ hb _ _ e.b.given.1) p.pair.ensures in
+    let low = places c in
+    let ha = first-held _ _ _ _ _ c.key_at.ensures c.next_number-a.ensures in
+    let hb = next-held _ _ _ _ _ ha c.next_number-b.ensures in
+    let read = road-good _ _ _ _ _ c.in-Numbers.is c.args.bound (noted_of c.args.pairs.now) _ _ _ _
+    (omega (arith, c.requires.0)) (held-value _ _ _ ha c.value_of.ensures) (held-told _ _ hb _ _ c.in-Value.is) c.pair-xs.ensures in
     road-faulty _ _ _ _ _ _ _ _ _ refl
-    (road-doubled _ _ _ _ _ (noted_of (start k).args.pairs.now) _ c.line_at.ensures (fitting c) (sym c.noted-before.ensures ∙ c.if-before.true) ∙ read)
-    (c.note.ensures ∙ noting-again _ _ _ (start k).requires.1 low.0 low.1 (sym c.noted-before.ensures ∙ c.if-before.true))
+    (road-doubled _ _ _ _ _ (noted_of c.args.pairs.now) _ c.line_at.ensures (fitting c) (sym c.noted-before.ensures ∙ c.if-before.true) ∙ read)
+    (c.note.ensures ∙ noting-again _ _ _ c.requires.1 low.0 low.1 (sym c.noted-before.ensures ∙ c.if-before.true))
 
 pub returns-then-road_fits : goal.returns-then-road_fits
 returns-then-road_fits c =
-    let j = judging c in
-    let p = j.before in let v = p.before in let e = v.before.before in let b = e.before.before in let a = b.before in let k = a.before in
-    let ha = first-held _ _ _ _ _ k.key-at.ensures a.next-number.ensures in
-    let hb = next-held _ _ _ _ _ ha b.next-number2.ensures in
-    let read = road-good _ _ _ _ _ (opened k).prior.given.1 (start k).args.bound (noted_of (start k).args.pairs.now) _ _ _ _
-    (omega (arith, (start k).requires.0)) (held-value _ _ _ ha v.value_of_lem.ensures) (held-told _ _ hb _ _ e.b.given.1) p.pair.ensures in
+    let ha = first-held _ _ _ _ _ c.key_at.ensures c.next_number-a.ensures in
+    let hb = next-held _ _ _ _ _ ha c.next_number-b.ensures in
+    let read = road-good _ _ _ _ _ c.in-Numbers.is c.args.bound (noted_of c.args.pairs.now) _ _ _ _
+    (omega (arith, c.requires.0)) (held-value _ _ _ ha c.value_of.ensures) (held-told _ _ hb _ _ c.in-Value.is) c.pair-xs.ensures in
     road-is _ _ _ _ _ _ _ _
-    (road-passed _ _ _ _ _ (noted_of (start k).args.pairs.now) (fitting c) (sym c.noted-before.ensures ∙ c.if-before.false) ∙ read)
+    (road-passed _ _ _ _ _ (noted_of c.args.pairs.now) (fitting c) (sym c.noted-before.ensures ∙ c.if-before.false) ∙ read)
     c.note.ensures
 
 pub returns : goal.returns

@@ -6,12 +6,6 @@ use Rattle.roadmap.specs.Words.{listed, Gains}
 use Rattle.roadmap.proofs.Gains.{listed_start, listed_next}
 use Rattle.roadmap.proofs.words.mark_roads.Goals as goal
 
--- both ends of the road are below 128
-ends : (c : goal.After-wide-b) → (c.wide-a.result < 128) × (c.wide-b.result < 128)
-ends c =
-    let i = c.loop-i.i in
-    (omega (arith, c.wide-a.ensures, c.requires.3 i), omega (arith, c.wide-b.ensures, c.requires.4 i))
-
 pub loop-i-init : goal.loop-i-init
 loop-i-init c =
     let a = c.args in
@@ -25,12 +19,15 @@ loop-i-init c =
 
 pub add_road-requires : goal.add_road-requires
 add_road-requires c =
-    (omega (arith, c.requires.1, c.loop-i.invariant.long), omega (arith, ends c), omega (arith, ends c))
+    let ends : (c.wide-a.result < 128) × (c.wide-b.result < 128) = let i = c.loop-i.i in
+    (omega (arith, c.wide-a.ensures, c.requires.3 i), omega (arith, c.wide-b.ensures, c.requires.4 i)) in
+    (omega (arith, c.requires.1, c.loop-i.invariant.long), omega (arith, ends), omega (arith, ends))
 
 pub add_road-requires-in-loop-i : goal.add_road-requires-in-loop-i
 add_road-requires-in-loop-i c =
-    let t = turn c in
-    (omega (arith, (entered t.before).requires.2, t.before.loop.invariant.long-back), omega (arith, ends c), omega (arith, ends c))
+    let ends : (c.wide-a.result < 128) × (c.wide-b.result < 128) = let i = c.loop-i.i in
+    (omega (arith, c.wide-a.ensures, c.requires.3 i), omega (arith, c.wide-b.ensures, c.requires.4 i)) in
+    (omega (arith, c.requires.2, c.loop-i.invariant.long-back), omega (arith, ends), omega (arith, ends))
 
 pub loop-i-preserved : goal.loop-i-preserved
 loop-i-preserved c =
