@@ -21,7 +21,7 @@ abbrev cost : Answer → List ℕ
 cost a = key_line cost_key (decimal a.cost)
 
 abbrev kept : Answer → List ℕ
-kept a = key_line kept_key (decimal a.auto)
+kept a = key_line kept_key (decimal a.kept)
 
 module _ (a : Answer) (b : List ℕ) (room : length (figures a) ≤ length b) where
   from-number : Left b 0 (figures a) b 0 (number a ++ (line a ++ (cost a ++ kept a)))

@@ -5,11 +5,11 @@ use borrow.Author.Rules.{rules}
 use Rattle.checker.proofs.Worths.{keeping_start, keeping-next, keeping-end, keeping-low, bit-low}
 use Rattle.checker.proofs.kept_by.Goals as goal
 
-low : (c : goal.After-kept_of-kept) → (c.loop-i.weight ≤ 256) × (c.loop-i.auto < 256)
+low : (c : goal.After-kept_of-kept) → (c.loop-i.weight ≤ 256) × (c.loop-i.kept < 256)
 low c =
     let a = c.args in
     let l = c.loop-i in
-    keeping-low a.p a.stem.now a.cycle.now l.i l.weight l.auto (omega (arith, l.invariant.0.listed, l.invariant.1)) l.invariant.0
+    keeping-low a.p a.stem.now a.cycle.now l.i l.weight l.kept (omega (arith, l.invariant.0.listed, l.invariant.1)) l.invariant.0
 
 pub loop-i-init : goal.loop-i-init
 loop-i-init c = (keeping_start c.args.p c.args.stem.now c.args.cycle.now, c.requires.0.rules)
@@ -27,7 +27,7 @@ pub loop-i-preserved : goal.loop-i-preserved
 loop-i-preserved c =
     let a = c.args in
     let l = c.loop-i in
-    (keeping-next a.p a.stem.now a.cycle.now l.i l.weight l.auto l.invariant.0 (omega arith) c.kept_of-kept.result c.kept_of-kept.ensures, l.invariant.1)
+    (keeping-next a.p a.stem.now a.cycle.now l.i l.weight l.kept l.invariant.0 (omega arith) c.kept_of-kept.result c.kept_of-kept.ensures, l.invariant.1)
 
 pub returns : goal.returns
 returns c =

@@ -16,14 +16,14 @@ bounds-p-i c = inside c
 
 pub accepts-requires : goal.accepts-requires
 accepts-requires c =
-    (usable-soft c.args.t1 c.requires.0 c.args.i c.requires.2, c.requires.0.few, c.requires.1.in-stem, c.requires.1.in-cycle)
+    (usable-soft c.args.p c.requires.0 c.args.i c.requires.2, c.requires.0.few, c.requires.1.in-stem, c.requires.1.in-cycle)
 
 pub returns-then-accepts : goal.returns-then-accepts
 returns-then-accepts c =
     let a = c.args in
-    bit_kept a.t1 c.requires.0 a.stem.now a.cycle.now a.i a.weight c.requires.2 c.accepts.result c.accepts.ensures c.if-accepts.true
+    bit_kept a.p c.requires.0 a.stem.now a.cycle.now a.i a.weight c.requires.2 c.accepts.result c.accepts.ensures c.if-accepts.true
 
 pub returns : goal.returns
 returns c =
     let a = c.args in
-    bit-left a.t1 c.requires.0 a.stem.now a.cycle.now a.i a.weight c.requires.2 c.accepts.result c.accepts.ensures c.if-accepts.false
+    bit-left a.p c.requires.0 a.stem.now a.cycle.now a.i a.weight c.requires.2 c.accepts.result c.accepts.ensures c.if-accepts.false

@@ -12,23 +12,23 @@ loop-i-init c = record { within = omega arith; room = search rules; state-bytes 
 
 pub overflow_cast-from : goal.overflow_cast-from
 overflow_cast-from c =
-    record { fits = byte (λ xs. xs.first) _ _ _ c.Numbers-of.ensures c.move_line-line.ensures.first-low c.loop-i.invariant.state-bytes }
+    record { fits = byte (λ xs. xs.first) _ _ _ c.numbers_of-xs.ensures c.move_line-line.ensures.first-low c.loop-i.invariant.state-bytes }
 
 pub overflow_cast-need : goal.overflow_cast-need
 overflow_cast-need c =
-    record { fits = byte (λ xs. xs.second) _ _ _ c.Numbers-of.ensures c.move_line-line.ensures.second-low c.loop-i.invariant.label-bytes }
+    record { fits = byte (λ xs. xs.second) _ _ _ c.numbers_of-xs.ensures c.move_line-line.ensures.second-low c.loop-i.invariant.label-bytes }
 
 pub overflow_cast-bar : goal.overflow_cast-bar
 overflow_cast-bar c =
-    record { fits = byte (λ xs. xs.third) _ _ _ c.Numbers-of.ensures c.move_line-line.ensures.third-low c.loop-i.invariant.label-bytes }
+    record { fits = byte (λ xs. xs.third) _ _ _ c.numbers_of-xs.ensures c.move_line-line.ensures.third-low c.loop-i.invariant.label-bytes }
 
 pub overflow_cast-any : goal.overflow_cast-any
 overflow_cast-any c =
-    record { fits = byte (λ xs. xs.fourth) _ _ _ c.Numbers-of.ensures c.move_line-line.ensures.fourth-low c.loop-i.invariant.label-bytes }
+    record { fits = byte (λ xs. xs.fourth) _ _ _ c.numbers_of-xs.ensures c.move_line-line.ensures.fourth-low c.loop-i.invariant.label-bytes }
 
 pub overflow_cast-to : goal.overflow_cast-to
 overflow_cast-to c =
-    record { fits = byte (λ xs. xs.fifth) _ _ _ c.Numbers-of.ensures c.move_line-line.ensures.fifth-low c.loop-i.invariant.state-bytes }
+    record { fits = byte (λ xs. xs.fifth) _ _ _ c.numbers_of-xs.ensures c.move_line-line.ensures.fifth-low c.loop-i.invariant.state-bytes }
 
 pub loop-i-preserved : goal.loop-i-preserved
 loop-i-preserved c =
@@ -39,7 +39,7 @@ loop-i-preserved c =
       state-bytes = l.invariant.state-bytes;
       label-bytes = l.invariant.label-bytes;
       same = rest-step _ _ _ _ _ l.invariant.same c.loop-i-test.true _
-          (move-step _ _ _ _ _ _ l.from l.need l.bar l.any l.to _ c.move_line-line.ensures.same c.Numbers-of.ensures);
+          (move-step _ _ _ _ _ _ l.from l.need l.bar l.any l.to _ c.move_line-line.ensures.same c.numbers_of-xs.ensures);
     }
 
 pub returns : goal.returns

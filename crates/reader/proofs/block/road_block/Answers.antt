@@ -26,11 +26,11 @@ loop-i-init c = record {
 
 pub overflow_cast-from : goal.overflow_cast-from
 overflow_cast-from c =
-    record { fits = byte (λ xs. xs.first) _ _ _ c.Numbers-of.ensures c.road_line-line.ensures.first-low (omega (arith, c.loop-i.invariant.bytes)) }
+    record { fits = byte (λ xs. xs.first) _ _ _ c.numbers_of-xs.ensures c.road_line-line.ensures.first-low (omega (arith, c.loop-i.invariant.bytes)) }
 
 pub overflow_cast-to : goal.overflow_cast-to
 overflow_cast-to c =
-    record { fits = byte (λ xs. xs.second) _ _ _ c.Numbers-of.ensures c.road_line-line.ensures.second-low (omega (arith, c.loop-i.invariant.bytes)) }
+    record { fits = byte (λ xs. xs.second) _ _ _ c.numbers_of-xs.ensures c.road_line-line.ensures.second-low (omega (arith, c.loop-i.invariant.bytes)) }
 
 pub loop-i-preserved : goal.loop-i-preserved
 loop-i-preserved c =
@@ -42,9 +42,9 @@ loop-i-preserved c =
       from-room = search rules;
       to_room = search rules;
       pairs-room = search rules;
-      noted = noted-after _ _ _ _ _ _ l.from l.to _ _ _ _ l.invariant.bytes l.invariant.noted l.invariant.pairs-room (omega arith) (omega arith) r c.Numbers-of.ensures;
+      noted = noted-after _ _ _ _ _ _ l.from l.to _ _ _ _ l.invariant.bytes l.invariant.noted l.invariant.pairs-room (omega arith) (omega arith) r c.numbers_of-xs.ensures;
       same = rest-step _ _ _ _ _ l.invariant.same c.loop-i-test.true _
-          (road-step _ _ _ _ _ l.from l.to _ (r.same ∙ road-by _ _ _ _ _ _ l.invariant.bytes l.invariant.noted) c.Numbers-of.ensures);
+          (road-step _ _ _ _ _ l.from l.to _ (r.same ∙ road-by _ _ _ _ _ _ l.invariant.bytes l.invariant.noted) c.numbers_of-xs.ensures);
     }
 
 pub returns : goal.returns
