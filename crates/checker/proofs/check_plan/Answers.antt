@@ -6,7 +6,7 @@ use Rattle.checker.proofs.Rulings.{told-whole, ruled-large, ruled-broken, ruled-
 use Rattle.checker.proofs.check_plan.Goals as goal
 
 pub returns-then-size : goal.returns-then-size
-returns-then-size c = let a = c.args in ruled-large a.p c.type_size.ensures a.stem.now a.cycle.now c.if-size.true
+returns-then-size c = let a = c.args in ruled-large a.p c.size_of-size.ensures a.stem.now a.cycle.now c.if-size.true
 
 pub appraise-requires : goal.appraise-requires
 appraise-requires c =
@@ -16,10 +16,10 @@ appraise-requires c =
 pub returns-in-At : goal.returns-in-At
 returns-in-At c =
     let a = c.args in
-    ruled-broken a.p c.type_size.ensures a.stem.now a.cycle.now _ c.if-size.false (sym c.in-At.is ∙ c.first_break-found.ensures)
+    ruled-broken a.p c.size_of-size.ensures a.stem.now a.cycle.now _ c.if-size.false (sym c.in-At.is ∙ c.first_break-found.ensures)
 
 pub returns-in-Nowhere : goal.returns-in-Nowhere
 returns-in-Nowhere c =
     let a = c.args in
-    ruled-whole a.p c.type_size.ensures a.stem.now a.cycle.now c.appraise.result c.if-size.false
+    ruled-whole a.p c.size_of-size.ensures a.stem.now a.cycle.now c.appraise.result c.if-size.false
     (sym c.in-Nowhere.is ∙ c.first_break-found.ensures) c.appraise.ensures
