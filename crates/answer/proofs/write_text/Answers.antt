@@ -64,8 +64,9 @@ returns c =
           (λ i. omega (arith, c.shared_slice_known-2-1.given i)),
     ) in
     let a = c.args in
-    wrote-front
-    (wrote-three (figures a.a) (key_line runin_key (joined a.runin.now)) (key_line loop_key (joined a.cycle.now)) room
-    c.put_figures-at.ensures
-    c.put_list_line-at.ensures
-    c.put_list_line.ensures)
+    let front = wrote-front
+        (wrote-three (figures a.a) (key_line runin_key (joined a.runin.now)) (key_line loop_key (joined a.cycle.now)) room
+        c.put_figures-at.ensures
+        c.put_list_line-at.ensures
+        c.put_list_line.ensures) in
+    record { value = front.0; out_after = front.1 }

@@ -33,4 +33,4 @@ pub returns : goal.returns
 returns c =
     let a = c.args in
     let l = c.loop-i in
-    keeping-end a.p a.stem.now a.cycle.now l.i l.weight l.auto (omega (arith, l.invariant.0.listed)) l.invariant.0
+    keeping-end a.p a.stem.now a.cycle.now l.i l.weight l.kept (omega (arith, l.invariant.0.listed)) l.invariant.0

@@ -5,26 +5,29 @@ use Rattle.drawn.proofs.read_tour.Goals as goal
 
 pub returns-in_default : goal.returns-in_default
 returns-in_default c =
-    let e = c.in_default.is in (
-      drawn _ _ _ _ c.line_with-at.ensures _ c.draft_at-draft.ensures _ c.drawn_of-drawn.ensures,
-      (none_written _ _ e _ _, none_written _ _ e _ _),
-    )
+    let e = c.in_default.is in
+    record {
+      value = drawn _ _ _ _ c.line_with-at.ensures _ c.draft_at-draft.ensures _ c.drawn_of-drawn.ensures;
+      runin_after = none_written _ _ e _ _;
+      cycle_after = none_written _ _ e _ _;
+    }
 
 pub put_list-requires : goal.put_list-requires
 put_list-requires c =
-    stem-stands _ _ _ _ c.line_with-at.ensures _ c.draft_at-draft.ensures _ c.drawn_of-drawn.ensures _ c.in-Tour.is
+    let h = stem-stands _ _ _ _ c.line_with-at.ensures _ c.draft_at-draft.ensures _ c.drawn_of-drawn.ensures _ c.in-Tour.is in
+    record { stands = h.0; count_in_bounds = h.1 }
 
 pub put_list-requires-2 : goal.put_list-requires-2
 put_list-requires-2 c =
-    cycle-stands _ _ _ _ c.line_with-at.ensures _ c.draft_at-draft.ensures _ c.drawn_of-drawn.ensures _ c.in-Tour.is
+    let h = cycle-stands _ _ _ _ c.line_with-at.ensures _ c.draft_at-draft.ensures _ c.drawn_of-drawn.ensures _ c.in-Tour.is in
+    record { stands = h.0; count_in_bounds = h.1 }
 
 pub returns : goal.returns
 returns c =
     let b = c.line_with-at.ensures in
-    let e = c.in-Tour.is in (
-      drawn _ _ _ _ b _ c.draft_at-draft.ensures _ c.drawn_of-drawn.ensures,
-      (
-        runin-written _ _ _ _ b _ c.draft_at-draft.ensures _ c.drawn_of-drawn.ensures _ e _ _ c.put_list.ensures,
-        loop-written _ _ _ _ b _ c.draft_at-draft.ensures _ c.drawn_of-drawn.ensures _ e _ _ c.put_list-2.ensures,
-      ),
-    )
+    let e = c.in-Tour.is in
+    record {
+      value = drawn _ _ _ _ b _ c.draft_at-draft.ensures _ c.drawn_of-drawn.ensures;
+      runin_after = runin-written _ _ _ _ b _ c.draft_at-draft.ensures _ c.drawn_of-drawn.ensures _ e _ _ c.put_list.ensures;
+      cycle_after = loop-written _ _ _ _ b _ c.draft_at-draft.ensures _ c.drawn_of-drawn.ensures _ e _ _ c.put_list-2.ensures;
+    }

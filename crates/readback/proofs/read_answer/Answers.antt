@@ -6,22 +6,23 @@ use Rattle.readback.proofs.read_answer.Goals as goal
 pub returns-in_default : goal.returns-in_default
 returns-in_default c =
     let e = c.in_default.is in
-    (replied _ _ _ _ c.read_lines-draft.ensures _ c.reply_of-reply.ensures, (none_written _ _ e _ _, none_written _ _ e _ _))
+    record { value = replied _ _ _ _ c.read_lines-draft.ensures _ c.reply_of-reply.ensures; runin_after = none_written _ _ e _ _; cycle_after = none_written _ _ e _ _ }
 
 pub put_list-requires : goal.put_list-requires
 put_list-requires c =
-    stem-stands _ _ _ _ c.read_lines-draft.ensures _ c.reply_of-reply.ensures _ c.in-Read.is
+    let h = stem-stands _ _ _ _ c.read_lines-draft.ensures _ c.reply_of-reply.ensures _ c.in-Read.is in
+    record { stands = h.0; count_in_bounds = h.1 }
 
 pub put_list-requires-2 : goal.put_list-requires-2
 put_list-requires-2 c =
-    cycle-stands _ _ _ _ c.read_lines-draft.ensures _ c.reply_of-reply.ensures _ c.in-Read.is
+    let h = cycle-stands _ _ _ _ c.read_lines-draft.ensures _ c.reply_of-reply.ensures _ c.in-Read.is in
+    record { stands = h.0; count_in_bounds = h.1 }
 
 pub returns : goal.returns
 returns c =
-    let e = c.in-Read.is in (
-      replied _ _ _ _ c.read_lines-draft.ensures _ c.reply_of-reply.ensures,
-      (
-        runin-written _ _ _ _ c.read_lines-draft.ensures _ c.reply_of-reply.ensures _ e _ _ c.put_list.ensures,
-        loop-written _ _ _ _ c.read_lines-draft.ensures _ c.reply_of-reply.ensures _ e _ _ c.put_list-2.ensures,
-      ),
-    )
+    let e = c.in-Read.is in
+    record {
+      value = replied _ _ _ _ c.read_lines-draft.ensures _ c.reply_of-reply.ensures;
+      runin_after = runin-written _ _ _ _ c.read_lines-draft.ensures _ c.reply_of-reply.ensures _ e _ _ c.put_list.ensures;
+      cycle_after = loop-written _ _ _ _ c.read_lines-draft.ensures _ c.reply_of-reply.ensures _ e _ _ c.put_list-2.ensures;
+    }

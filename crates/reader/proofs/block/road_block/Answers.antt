@@ -11,8 +11,6 @@ use Rattle.reader.proofs.Noting.{noted-start, noted-after, road-by}
 use borrow.Author.Rules.{rules}
 use Rattle.reader.proofs.block.road_block.Goals as goal
 
-}
-
 pub loop-i-init : goal.loop-i-init
 loop-i-init c = record {
   within = omega arith;
@@ -23,6 +21,7 @@ loop-i-init c = record {
   pairs-room = search rules;
   noted = λ e. noted-start c.args.prior (replicate 1024 0) (replicate 1024 0);
   same = roads-start _ _ _ _;
+}
 
 pub overflow_cast-from : goal.overflow_cast-from
 overflow_cast-from c =

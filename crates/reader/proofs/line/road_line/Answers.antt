@@ -1,25 +1,19 @@
 -- `road_line` meets its contract: each return is the line by its last number, and by the three tests of its form, its range and its pair.
 use mathlib.Core.Path.{◌≡◌, refl, sym, ◌∙◌}
 use mathlib.Core.Bool.{true}
-use Prim.Native.Nat.{◌<◌}
+use Prim.Native.Nat.{ℕ, ◌≤◌, ◌<◌}
 use native.Mathlib.Omega.{arith}
+use Rattle.text.specs.declared.line.Numbers.{Numbers}
 use Rattle.text.proofs.Held.{first-held, held-bad, held-told, held-value, next-held}
 use Rattle.reader.specs.Pairs.{noted_of}
 use Rattle.reader.specs.Line.{road_fits}
 use Rattle.reader.proofs.Noting.{noting-again}
 use Rattle.reader.proofs.Lines.{road-fault, road-bad, road-good, road-doubled, road-passed, road-ranged, road-is, road-faulty, fits_both}
 use Rattle.reader.proofs.line.road_line.Goals as goal
-use Rattle.reader.proofs.line.road_line.Tie as tie
 
--- where it is looked up its numbers fit, and both are those of places
-fitting : (n : tie.After-noted-arg) → road_fits (judging n).before.pair.result (start (beginning (judging n))).args.bound ≡ true
-fitting n = sym (judging n).road-fits.ensures ∙ n.before.before.before.if1.true
-
-places : (n : tie.After-noted-arg) → let xs = (judging n).before.pair.result in (xs.first < 128) × (xs.second < 128)
-places n =
-    let s = start (beginning (judging n)) in
-    let low = fits_both (judging n).before.pair.result s.args.bound (fitting n) in
-    (omega (arith, low.0, s.requires.0), omega (arith, low.1, s.requires.0))
+-- numbers that fit are those of places
+placed : (xs : Numbers) (bound : ℕ) → bound ≤ 128 → road_fits xs bound ≡ true → (xs.first < 128) × (xs.second < 128)
+placed xs bound few fits = let low = fits_both xs bound fits in (omega (arith, low.0, few), omega (arith, low.1, few))
 
 pub returns-in_default : goal.returns-in_default
 returns-in_default c = road-faulty _ _ _ _ _ _ _ _ _ c.in_default.is (road-fault _ _ _ _ c.in_default.is _ _) refl
@@ -32,22 +26,24 @@ returns-in_default-b c =
     (c.bad_form.ensures ∙ road-bad _ _ _ _ _ c.in-Numbers.is _ _ (held-bad _ _ hb c.in_default-b.is)) refl
 
 pub noted-before-requires : goal.noted-before-requires
-noted-before-requires c = (c.requires.1, (places c).0, (places c).1)
+noted-before-requires c =
+    let low = placed c.pair-xs.result c.args.bound c.requires.0 (sym c.road_fits.ensures ∙ c.if-road_fits.true) in
+    (c.requires.1, low.0, low.1)
 
 pub note-requires : goal.note-requires
 note-requires c =
-    let low = places c in
+    let low = placed c.pair-xs.result c.args.bound c.requires.0 (sym c.road_fits.ensures ∙ c.if-road_fits.true) in
     (c.requires.1, omega (arith, low.0, low.1), omega (arith, low.0, low.1))
 
 pub returns-then-before : goal.returns-then-before
 returns-then-before c =
-    let low = places c in
+    let low = placed c.pair-xs.result c.args.bound c.requires.0 (sym c.road_fits.ensures ∙ c.if-road_fits.true) in
     let ha = first-held _ _ _ _ _ c.key_at.ensures c.next_number-a.ensures in
     let hb = next-held _ _ _ _ _ ha c.next_number-b.ensures in
     let read = road-good _ _ _ _ _ c.in-Numbers.is c.args.bound (noted_of c.args.pairs.now) _ _ _ _
     (omega (arith, c.requires.0)) (held-value _ _ _ ha c.value_of.ensures) (held-told _ _ hb _ _ c.in-Value.is) c.pair-xs.ensures in
     road-faulty _ _ _ _ _ _ _ _ _ refl
-    (road-doubled _ _ _ _ _ (noted_of c.args.pairs.now) _ c.line_at.ensures (fitting c) (sym c.noted-before.ensures ∙ c.if-before.true) ∙ read)
+    (road-doubled _ _ _ _ _ (noted_of c.args.pairs.now) _ c.line_at.ensures (sym c.road_fits.ensures ∙ c.if-road_fits.true) (sym c.noted-before.ensures ∙ c.if-before.true) ∙ read)
     (c.note.ensures ∙ noting-again _ _ _ c.requires.1 low.0 low.1 (sym c.noted-before.ensures ∙ c.if-before.true))
 
 pub returns-then-road_fits : goal.returns-then-road_fits
@@ -57,7 +53,7 @@ returns-then-road_fits c =
     let read = road-good _ _ _ _ _ c.in-Numbers.is c.args.bound (noted_of c.args.pairs.now) _ _ _ _
     (omega (arith, c.requires.0)) (held-value _ _ _ ha c.value_of.ensures) (held-told _ _ hb _ _ c.in-Value.is) c.pair-xs.ensures in
     road-is _ _ _ _ _ _ _ _
-    (road-passed _ _ _ _ _ (noted_of c.args.pairs.now) (fitting c) (sym c.noted-before.ensures ∙ c.if-before.false) ∙ read)
+    (road-passed _ _ _ _ _ (noted_of c.args.pairs.now) (sym c.road_fits.ensures ∙ c.if-road_fits.true) (sym c.noted-before.ensures ∙ c.if-before.false) ∙ read)
     c.note.ensures
 
 pub returns : goal.returns
