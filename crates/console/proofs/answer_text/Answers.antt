@@ -30,4 +30,4 @@ write_text-requires c =
 
 pub returns : goal.returns
 returns c =
-    record { answer = c.file_answer-a.result; c = c.file_answer-a.ensures; text = c.write_text.ensures.1; long = c.write_text.ensures.0 }
+    record { answer = c.file_answer-a.result; told = c.file_answer-a.ensures; text = c.write_text.ensures.out_after; long = c.write_text.ensures.value }

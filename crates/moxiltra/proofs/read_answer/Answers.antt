@@ -9,4 +9,4 @@ returns-then-block-lt32 c = reply-short _ _ (omega (arith, c.if-block-lt32.true)
 pub returns : goal.returns
 returns c =
     let e = c.read_answer-reply.ensures in
-    reply-told _ _ _ _ _ _ _ _ _ (omega (arith, c.if-block-lt32.false)) e.0 e.1.0 e.1.1 c.put_reply.ensures c.reply_number.ensures
+    reply-told _ _ _ _ _ _ _ _ _ (omega (arith, c.if-block-lt32.false)) e.value e.runin_after e.cycle_after c.put_reply.ensures c.reply_number.ensures

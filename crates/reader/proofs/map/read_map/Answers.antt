@@ -10,5 +10,5 @@ returns c =
           c.line_of_one-places.ensures.same c.first_of-m.ensures c.first_of-p.ensures
           c.label_count.ensures.0 c.label_block-x.ensures c.line_of_one-start.ensures.same c.line_of_one-count.ensures.same
           c.first_of-n.ensures c.road_block-y.ensures c.first_of.ensures;
-      c = omega (arith, c.first_of-m.ensures, c.line_of_one-marks.ensures.first-low);
+      marks = omega (arith, c.first_of-m.ensures, c.line_of_one-marks.ensures.first-low);
     }
