@@ -1,4 +1,6 @@
 //! Acceptance of a run-in and a loop by an automaton, decided. Sets of states are bits: bit q stands for state q.
+#![tactic(auto)]
+
 ghost use Rattle.std.specs.Prelude.{◌≡◌, ◌^◌, ◌≤◌, ◌<◌};
 ghost use Rattle.base.specs.Bits.{has_bit};
 ghost use Rattle.automata.specs.WellFormed.{Below};

@@ -1,4 +1,6 @@
 //! What the planner answers: as the sixteen bytes of the answer block, and as the six lines of a text.
+#![tactic(auto)]
+
 ghost use Rattle.std.specs.Prelude.{◌≡◌, ◌++◌, ◌+◌, ◌*◌, ◌≤◌, length, drop};
 ghost use Rattle.text.specs.Over.{Wrote};
 ghost use Rattle.answer.specs.Block.{little, block_of};

@@ -1,4 +1,6 @@
 //! The tour of the best component: what a plan comes to once the component is found.
+#![tactic(auto)]
+
 ghost use Rattle.std.specs.Prelude.{◌≡◌, ◌*◌, length};
 ghost use Rattle.promise.specs.Promise.{Planned};
 ghost use Rattle.besttour.specs.Tables.{Small, Rooms, Desk, Targeted};

@@ -1,4 +1,6 @@
 //! Tours drawn by hand: whether a proposed tour is one of the plan, whether the hard rule accepts it, what it keeps and what it costs.
+#![tactic(auto)]
+
 ghost use Rattle.std.specs.Prelude.{◌≡◌, ◌++◌, ◌≤◌, ◌<◌, length, drop};
 ghost use Rattle.text.specs.Over.{Wrote};
 ghost use Rattle.checker.specs.Block.{flag as flag_of, head_of, block_of};

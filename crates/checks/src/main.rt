@@ -1,5 +1,7 @@
 //! Checks proposed tours, and writes a line for each. On standard input a tour comes as three frames: the plan file, the run-in and the
 //! loop. The line has number, line, index, accepts, cost and kept.
+#![tactic(auto)]
+
 use checker::{Check, Worth};
 use libc::STDOUT_FILENO;
 

@@ -1,6 +1,8 @@
 //! checktour PLAN TOUR: checks a tour drawn by hand. PLAN names a plan file, TOUR a text with the lines `runin=` and `loop=` as plantour
 //! prints them. Six lines tell what the checker answers, from `number=` to `kept=`. Where there is no plan or no tour to check, a
 //! sentence on standard error tells why.
+#![tactic(auto)]
+
 ghost use Rattle.io.specs.Counts.{IsPrefixLen};
 
 use checker::{Check, check_index, check_line, check_number, check_tour, flag, worth_of};

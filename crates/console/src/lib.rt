@@ -1,4 +1,6 @@
 //! Plan files answered in text.
+#![tactic(auto)]
+
 ghost use Rattle.std.specs.Prelude.{◌+◌, ◌*◌, ◌≤◌, length, take};
 ghost use Rattle.console.specs.Printed.{Printed};
 

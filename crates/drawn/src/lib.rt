@@ -1,5 +1,7 @@
 //! Tours as people write them down: a text with a line `runin=` and a line `loop=` behind it, as program plantour prints them. Lines
 //! before these two are passed over, and what follows them is not looked at.
+#![tactic(auto)]
+
 ghost use Rattle.std.specs.Prelude.{◌≡◌, true, ◌&&◌, eqb, length, drop};
 ghost use Rattle.text.specs.Scan.{starts_with};
 ghost use Rattle.drawn.specs.Drawing.{line_with, draft_at, roomy, fitting, drawn_of, read_tour, runin_of, loop_of, written};

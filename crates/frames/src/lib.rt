@@ -1,4 +1,6 @@
 //! Texts on standard input, one after the other, each in a frame: its length in six digits, a line's end, and its bytes.
+#![tactic(auto)]
+
 ghost use Rattle.std.specs.Prelude.{◌≡◌, ◌-◌, ◌≤◌};
 ghost use Rattle.frames.specs.Frame.{length_in, Taken};
 

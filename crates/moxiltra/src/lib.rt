@@ -1,4 +1,6 @@
 //! What a host calls: the entries of the library, on numbers and byte slices.
+#![tactic(auto)]
+
 ghost use Rattle.serve.specs.Upcoming.{Offset};
 ghost use Rattle.moxiltra.specs.Entries.{buffers, Promise, Reading, Checking};
 

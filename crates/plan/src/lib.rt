@@ -1,4 +1,6 @@
 //! A plan: places with labels, one-way roads, a start, a hard rule and up to eight soft rules with weights.
+#![tactic(auto)]
+
 pub mod kind;
 pub mod size;
 

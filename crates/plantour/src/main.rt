@@ -1,4 +1,6 @@
 //! Reads a plan on standard input and prints its answer: six lines, from `answer=` to `loop=`.
+#![tactic(auto)]
+
 use libc::STDIN_FILENO;
 
 // One byte more than the longest plan has is taken: of a longer input no more is read, and it is refused.

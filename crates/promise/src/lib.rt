@@ -1,4 +1,6 @@
 //! What is promised of an answer, and the answers themselves: that to a refusal and that to a tour.
+#![tactic(auto)]
+
 ghost use Rattle.std.specs.Prelude.{◌≡◌, ◌<◌, ◌≤◌};
 ghost use Rattle.plan.specs.WellFormed.{WellFormed};
 ghost use Rattle.plan.specs.Refusal.{line_of};

@@ -1,4 +1,6 @@
 //! The reader of an answer's text: what program plantour printed, back as numbers and places, or why it is turned away.
+#![tactic(auto)]
+
 ghost use Rattle.std.specs.Prelude.{◌≡◌, ◌&&◌, ◌++◌, ◌≤◌, eqb, ltb, length, drop};
 ghost use Rattle.text.specs.Over.{Wrote};
 ghost use Rattle.plan.specs.Answers.{blank};

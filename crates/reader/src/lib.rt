@@ -1,4 +1,6 @@
 //! The reader of a plan file: the plan, or why it is turned away.
+#![tactic(auto)]
+
 mod block;
 pub mod line;
 pub mod map;

@@ -1,5 +1,7 @@
 //! Reads plan files from standard input, in frames, and writes, for each, the number of its outcome and the line that comes
 //! with it. A plan whose product is too large is no plan here.
+#![tactic(auto)]
+
 ghost use Rattle.std.specs.Prelude.{◌≤◌};
 
 use libc::STDOUT_FILENO;

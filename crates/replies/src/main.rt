@@ -1,6 +1,8 @@
 //! Reads texts of answers back, and writes a line for each. On standard input a text comes as the last of three frames; before it
 //! stand the run-in buffer and the loop buffer, as they are lent. The line has the number and the line of the reply; number, line,
 //! cost, kept and both lengths of what was read; and a sum over each buffer as the call leaves it.
+#![tactic(auto)]
+
 ghost use Rattle.std.specs.Prelude.{◌<◌};
 
 use libc::STDOUT_FILENO;

@@ -1,4 +1,6 @@
 //! Which place of a plan leads to which, as a table, for all that look it up.
+#![tactic(auto)]
+
 pub mod words;
 
 ghost use Rattle.std.specs.Prelude.{◌≡◌, ◌+◌, ◌≤◌, ◌<◌, length, get_or, set};

@@ -1,4 +1,6 @@
 //! The places that come next.
+#![tactic(auto)]
+
 ghost use Rattle.std.specs.Prelude.{◌≡◌};
 ghost use Rattle.serve.specs.Upcoming.{upcoming_places, Offset};
 

@@ -1,4 +1,5 @@
 //! Prints the answers to plan files from standard input, in frames, each as `plantour` does.
+#![tactic(auto)]
 
 // Prints the answer to the next plan file; false where there is none.
 fn answer_next() -> bool {

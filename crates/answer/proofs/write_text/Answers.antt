@@ -65,8 +65,8 @@ returns c =
     ) in
     let a = c.args in
     let front = wrote-front
-        (wrote-three (figures a.a) (key_line runin_key (joined a.runin.now)) (key_line loop_key (joined a.cycle.now)) room
-        c.put_figures-at.ensures
-        c.put_list_line-at.ensures
-        c.put_list_line.ensures) in
+    (wrote-three (figures a.a) (key_line runin_key (joined a.runin.now)) (key_line loop_key (joined a.cycle.now)) room
+    c.put_figures-at.ensures
+    c.put_list_line-at.ensures
+    c.put_list_line.ensures) in
     record { value = front.0; out_after = front.1 }

@@ -51,13 +51,12 @@ put_decimal-next-requires c =
     (number-room c.args.numbers.now c.loop-i.i c.loop-i-test.true c.loop-i.invariant.1 c.put_byte-number.ensures)
 
 pub loop-i-preserved : goal.loop-i-preserved
-loop-i-preserved c =
-    (
-      omega arith,
-      turn c.args.numbers.now c.loop-i.i c.loop-i-test.true c.loop-i.invariant.1 c.put_byte-number.ensures
-          c.wide.ensures
-          c.put_decimal-next.ensures,
-    )
+loop-i-preserved c = (
+  omega arith,
+  turn c.args.numbers.now c.loop-i.i c.loop-i-test.true c.loop-i.invariant.1 c.put_byte-number.ensures
+      c.wide.ensures
+      c.put_decimal-next.ensures,
+)
 
 pub shape_of-out : goal.shape_of-out
 shape_of-out c = c.loop-i.invariant.1.size
