@@ -19,7 +19,7 @@ use lib.Arith.{digits_div}
 use lib.Dec.{eqb}
 use Rattle.base.specs.Below.{any_below}
 use Rattle.base.specs.Bits.{bit, has_bit, Members}
-use Rattle.acceptance.specs.Decision.{after, turn}
+use Rattle.acceptance.specs.Decision.{after}
 use Rattle.acceptance.specs.Table.{step_in, Narrow, Word, Turned}
 use Rattle.acceptance.specs.Sets.{met_after, led_by, Tabled, Begun, Ending, Course, Going, Worded, Stored, StoredFour}
 use Rattle.base.proofs.Tests.{bool_same, any-intro, any-elim, and_left, and_right}

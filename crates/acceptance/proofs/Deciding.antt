@@ -12,7 +12,7 @@ use lib.ListN.{get_or}
 use lib.Dec.{eqb}
 use Rattle.base.specs.Below.{any_below}
 use Rattle.base.specs.Bits.{has_bit, Members}
-use Rattle.acceptance.specs.Decision.{after, turn, meet, linked, turns, decided}
+use Rattle.acceptance.specs.Decision.{after, turn, meet, turns, decided}
 use Rattle.acceptance.specs.Table.{step_in, gathered, Narrow, Turned, related, returning, Closed}
 use Rattle.base.proofs.Tests.{bool_same, any_same, any-intro, any-elim, and_intro, and_left, and_right}
 use Rattle.base.proofs.Bits.{bit-div}

@@ -22,7 +22,7 @@ use Rattle.base.specs.Bits.{bit}
 use Rattle.base.proofs.Bits.{bit_high}
 use Rattle.automata.specs.Acceptance.{SoftAccepts}
 use Rattle.automata.specs.WellFormed.{no_automaton}
-use Rattle.plan.specs.WellFormed.{soft, weight}
+use Rattle.plan.specs.WellFormed.{weight}
 use Rattle.plan.specs.Tour.{joins, word, IsLasso, Soft}
 use Rattle.plan.specs.Cost.{keeps, cost, cost_of, First, Better, Best}
 use Rattle.plan.specs.declared.Plan.{Plan}

@@ -1,5 +1,5 @@
 -- `kept_by` meets its contract: the kept byte is exact for the first i rules.
-use Prim.Native.Nat.{◌-◌, ◌≤◌, ◌<◌}
+use Prim.Native.Nat.{◌≤◌, ◌<◌}
 use native.Mathlib.Omega.{arith}
 use borrow.Author.Rules.{rules}
 use Rattle.checker.proofs.Worths.{keeping_start, keeping-next, keeping-end, keeping-low, bit-low}

@@ -1,6 +1,5 @@
 -- `line_with` meets its contract. The loop keeps that the search from its byte on decides; each return is one case of the search.
 use mathlib.Core.Path.{sym, ◌∙◌}
-use Prim.Native.Nat.{◌-◌}
 use native.Mathlib.Omega.{arith}
 use Rattle.drawn.proofs.Seeking.{with-here, with-on, with-past}
 use Rattle.drawn.proofs.line_with.Goals as goal

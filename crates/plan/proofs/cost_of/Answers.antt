@@ -1,6 +1,5 @@
 -- `cost_of` meets its contract. The loop's invariant is `Summing`: the sum over the rules before rule i.
 use native.Mathlib.Omega.{arith}
-use Prim.Native.Nat.{◌-◌}
 use Rattle.plan.proofs.Charging.{summing_start, summing-step, summing-end}
 use Rattle.plan.proofs.cost_of.Goals as goal
 

@@ -1,6 +1,5 @@
 -- `tie_of` meets its contract. The loop's invariant is `Tying`: the digits of the rules before rule i.
 use native.Mathlib.Omega.{arith}
-use Prim.Native.Nat.{◌-◌}
 use Rattle.plan.proofs.Charging.{tying-start, tying-step, tying-end}
 use Rattle.plan.proofs.tie_of.Goals as goal
 

@@ -5,7 +5,6 @@ use native.Mathlib.Omega.{arith}
 use native.Mathlib.Nat.{mul-le-mul_right}
 use Rattle.plan.proofs.Products.{sized-small, sized-nodes}
 use Rattle.promise.proofs.Verdicts.{too-large, short-runin, short-loop, roomy-planned}
-use borrow.Author.Rules.{rules}
 use Rattle.planner.proofs.plan_answer.Goals as goal
 
 pub returns-then-size : goal.returns-then-size

@@ -1,6 +1,5 @@
 -- `extend` meets its contract: before the turn for the set x the sets below x have the state more.
 use mathlib.Core.Path.{◌≡◌, refl}
-use Prim.Native.Nat.{◌-◌}
 use native.Mathlib.Omega.{arith}
 use lib.ListN.{length-set}
 use Rattle.acceptance.proofs.Tabling.{extended-start, extended-put}

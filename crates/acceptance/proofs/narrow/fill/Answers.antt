@@ -1,6 +1,5 @@
 -- `fill` meets its contract: before the turn for place v the places below v are tabled.
 use mathlib.Core.Path.{◌≡◌}
-use Prim.Native.Nat.{◌-◌}
 use native.Mathlib.Omega.{arith}
 use Rattle.acceptance.proofs.Tabling.{tabled_start}
 use Rattle.acceptance.proofs.narrow.fill.Goals as goal

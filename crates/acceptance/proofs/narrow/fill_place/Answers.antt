@@ -1,6 +1,6 @@
 -- `fill_place` meets its contract: before the turn for state q the place has the sets of the states below q. They are 2 ^ q, and at most 256.
 use mathlib.Core.Path.{◌≡◌, refl, ap, ◌∙◌}
-use Prim.Native.Nat.{◌+◌, ◌-◌, ◌*◌, ◌^◌, ◌≤◌}
+use Prim.Native.Nat.{◌+◌, ◌*◌, ◌^◌, ◌≤◌}
 use native.Mathlib.Omega.{arith}
 use lib.ListN.{length-set}
 use Rattle.acceptance.proofs.Tabling.{tabled-first, tabled-extend, tabled-next, narrow-byte, sizes-double, sizes-fit, step-members}

@@ -1,6 +1,5 @@
 -- `turn` meets its contract: four states at a time.
 use mathlib.Core.Path.{sym, ◌∙◌}
-use Prim.Native.Nat.{◌-◌}
 use native.Mathlib.Omega.{arith}
 use Rattle.acceptance.proofs.Words.{turned_none}
 use Rattle.acceptance.proofs.Courses.{worded-turned, turned-few}

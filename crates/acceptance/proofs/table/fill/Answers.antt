@@ -1,6 +1,5 @@
 -- `fill` meets its contract: before the turn for place v the rows of the places below v are filled.
 use mathlib.Core.Path.{◌≡◌}
-use Prim.Native.Nat.{◌-◌}
 use native.Mathlib.Omega.{arith}
 use Rattle.acceptance.proofs.Filling.{filled_next}
 use Rattle.acceptance.proofs.table.fill.Goals as goal

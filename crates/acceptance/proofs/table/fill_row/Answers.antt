@@ -1,7 +1,6 @@
 -- `fill_row` meets its contract: before the turn for state q the row has the entries of the states below q. A rule has at most 16
 -- states, so that a row of 32 has room for them.
 use mathlib.Core.Path.{◌≡◌, ◌∙◌}
-use Prim.Native.Nat.{◌-◌}
 use native.Mathlib.Omega.{arith}
 use lib.ListN.{length-set}
 use Rattle.acceptance.proofs.Filling.{steps-narrow, filled_put}

@@ -1,7 +1,6 @@
 -- `begin` meets its contract: the words over no places, state by state.
 use mathlib.Core.Path.{sym, subst, ◌∙◌}
 use mathlib.Core.List.{[]}
-use Prim.Native.Nat.{◌-◌}
 use native.Mathlib.Omega.{arith}
 use lib.ListN.{length-set}
 use Rattle.base.specs.Bits.{has_bit}

@@ -1,5 +1,4 @@
 -- `follow` meets its contract: what is left of the list leads on from the states reached.
-use Prim.Native.Nat.{◌-◌}
 use native.Mathlib.Omega.{arith}
 use borrow.Author.Rules.{rules}
 use Rattle.acceptance.proofs.Following.{following-start, following-step, following-end}

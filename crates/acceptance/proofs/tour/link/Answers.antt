@@ -1,6 +1,5 @@
 -- `link` meets its contract: the sets by way of the states below k.
 use mathlib.Core.Path.{refl, sym, subst, ◌∙◌}
-use Prim.Native.Nat.{◌-◌}
 use native.Mathlib.Omega.{arith}
 use Rattle.acceptance.specs.Table.{related, Linked}
 use Rattle.acceptance.proofs.Links.{linked-pass}

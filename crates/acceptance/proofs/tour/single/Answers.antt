@@ -1,6 +1,5 @@
 -- `single` meets its contract: the sets of itself and of one turn, state by state.
 use mathlib.Core.Path.{sym, subst, ◌∙◌}
-use Prim.Native.Nat.{◌-◌}
 use native.Mathlib.Omega.{arith}
 use lib.ListN.{length-set}
 use Rattle.acceptance.specs.Table.{related, Linked}

@@ -1,6 +1,5 @@
 -- `some_comes_back` meets its contract: no state before s comes back.
 use mathlib.Core.Path.{refl, sym, ap, ◌∙◌}
-use Prim.Native.Nat.{◌-◌}
 use native.Mathlib.Omega.{arith}
 use Rattle.base.specs.Below.{any_below}
 use Rattle.acceptance.specs.Table.{returning}

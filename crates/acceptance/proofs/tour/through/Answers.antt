@@ -1,6 +1,5 @@
 -- `through` meets its contract: the sets by way of state k, one after the other.
 use mathlib.Core.Path.{sym, subst, ◌∙◌}
-use Prim.Native.Nat.{◌-◌}
 use native.Mathlib.Omega.{arith}
 use lib.ListN.{length-set}
 use Rattle.acceptance.specs.Table.{Passed}

@@ -1,4 +1,4 @@
-use Prim.Native.Nat.{◌-◌, ◌≤◌}
+use Prim.Native.Nat.{◌≤◌}
 use lib.ListN.{length, drop}
 use Rattle.acceptance.specs.Table.{Turned}
 use Rattle.acceptance.proofs.tour.turn.Given as goal

@@ -1,5 +1,4 @@
 -- `driven` meets its contract: before turn i the drive has gone as far as index i.
-use Prim.Native.Nat.{◌-◌}
 use native.Mathlib.Omega.{arith}
 use lib.ListN.{get_or}
 use Rattle.checker.specs.Drive.{on_table}

@@ -1,6 +1,6 @@
 -- `held_size` meets its contract. The loop keeps that n is the product of the factors passed, held at 2,049.
 use mathlib.Core.Path.{◌≡◌, refl, ap, ◌∙◌}
-use Prim.Native.Nat.{ℕ, ◌+◌, ◌-◌, ◌*◌, min}
+use Prim.Native.Nat.{ℕ, ◌+◌, ◌*◌, min}
 use native.Mathlib.Omega.{arith}
 use Rattle.base.specs.Below.{product_below}
 use Rattle.automata.specs.WellFormed.{no_automaton}

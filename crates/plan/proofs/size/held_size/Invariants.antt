@@ -5,8 +5,6 @@ use lib.ListN.{get_or}
 use Rattle.base.specs.Below.{product_below}
 use Rattle.automata.specs.declared.Automaton.{Automaton}
 use Rattle.automata.specs.WellFormed.{no_automaton}
-use Rattle.plan.specs.WellFormed.{soft}
-use borrow.Author.Rules.{rules}
 use Rattle.plan.proofs.size.held_size.Given as goal
 
 pub record Grown (rules n₀ : ℕ) (soft : List Automaton) (n i : ℕ) : Type 0 where

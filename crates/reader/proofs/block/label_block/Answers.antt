@@ -1,5 +1,4 @@
 -- `label_block` meets its contract. The loop keeps that the labels read so far and the lines still to be read make up the block.
-use Prim.Native.Nat.{◌-◌}
 use native.Mathlib.Omega.{arith}
 use Rattle.reader.proofs.Filling.{rest-step, rest_end}
 use Rattle.reader.proofs.Steps.{labels-start, label-step}

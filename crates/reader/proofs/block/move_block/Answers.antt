@@ -1,5 +1,4 @@
 -- `move_block` meets its contract. The loop keeps that the moves read so far and the lines still to be read make up the block.
-use Prim.Native.Nat.{◌-◌}
 use native.Mathlib.Omega.{arith}
 use Rattle.reader.proofs.Lines.{byte}
 use Rattle.reader.proofs.Filling.{rest-step, rest_end}

@@ -1,7 +1,6 @@
 -- `road_block` meets its contract. The loop keeps that the roads read so far and the lines still to be read make up the block, and that, as long
 -- as no line has a fault, the pairs noted are those read so far.
 use mathlib.Core.Path.{◌∙◌}
-use Prim.Native.Nat.{◌-◌}
 use native.Mathlib.Omega.{arith}
 use lib.ListN.{replicate}
 use Rattle.reader.proofs.Lines.{byte}

@@ -1,5 +1,4 @@
 -- `soft_blocks` meets its contract. The loop keeps that the soft rules read so far and those still to be read make up the block.
-use Prim.Native.Nat.{◌-◌}
 use native.Mathlib.Omega.{arith}
 use Rattle.reader.proofs.Filling.{rest-step, rest_end}
 use Rattle.reader.proofs.Steps.{softs-start, soft-step}

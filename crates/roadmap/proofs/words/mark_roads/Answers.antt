@@ -1,6 +1,6 @@
 -- Before turn i the first i roads are added.
 use mathlib.Core.Path.{◌≡◌, refl, subst}
-use Prim.Native.Nat.{◌-◌, ◌<◌}
+use Prim.Native.Nat.{◌<◌}
 use native.Mathlib.Omega.{arith}
 use Rattle.roadmap.specs.Words.{listed, Gains}
 use Rattle.roadmap.proofs.Gains.{listed_start, listed_next}

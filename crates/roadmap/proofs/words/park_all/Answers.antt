@@ -1,6 +1,5 @@
 -- Before turn a the first a places are seen to; that they were changes nothing of the words of place a.
 use mathlib.Core.Path.{◌≡◌, refl, subst}
-use Prim.Native.Nat.{◌-◌}
 use native.Mathlib.Omega.{arith}
 use Rattle.roadmap.specs.Words.{bare, parked, Gains}
 use Rattle.roadmap.proofs.Gains.{bare-same, parked-start, parked-next}

@@ -1,5 +1,4 @@
 -- `put_list` meets its contract: the loop keeps that the numbers written so far stand at the front, and where the next one is (`Put`).
-use Prim.Native.Nat.{◌-◌}
 use Rattle.text.proofs.Spelling.{put-start, put_next, put-there, put-end}
 use Rattle.text.proofs.list.put_list.Goals as goal
 

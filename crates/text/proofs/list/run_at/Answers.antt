@@ -1,5 +1,4 @@
 -- `run_at` meets its contract: the loop keeps what is passed of the list (`Passed`), and each return ends it.
-use Prim.Native.Nat.{◌-◌}
 use Rattle.text.proofs.Entries.{passed_start, passed-more, passed-end, passed-all}
 use Rattle.text.proofs.list.run_at.Goals as goal
 

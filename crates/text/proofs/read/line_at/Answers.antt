@@ -1,6 +1,5 @@
 -- `line_at` meets its contract. The loop keeps that `line` and the line ends still to be passed make up the line's number;
 -- `line` is at most i + 1, so it does not wrap.
-use Prim.Native.Nat.{◌-◌}
 use native.Mathlib.Omega.{arith}
 use Rattle.text.proofs.Newlines.{line-start, newlines-more, newlines-past, newlines-done}
 use Rattle.text.proofs.read.line_at.Goals as goal
