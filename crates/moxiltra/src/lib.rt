@@ -1,4 +1,4 @@
-//! What a host calls: the entries of the library, on numbers and byte slices.
+//! What a host calls: the entries of the library, on numbers and byte slices. Crate `moxiltra_c` exports them to C.
 #![tactic(auto)]
 
 ghost use Rattle.serve.specs.Upcoming.{Offset};
@@ -12,8 +12,7 @@ use readback::{put_reply, reply_number};
 
 // Plans a tour. Returns 0 or the number of the refusal, and fills the first 16 bytes of the answer block. A tour is written
 // over the front of run-in and loop buffer; on a refusal no byte of them changes.
-#[unsafe(no_mangle)]
-pub extern "C" fn plan_tour(
+pub fn plan_tour(
     plan: &[u8],
     block: &mut [u8],
     runin: &mut [u8],
@@ -31,8 +30,7 @@ pub extern "C" fn plan_tour(
 
 // The index at which the places to come from step t on begin: in the run-in if t is below its length, else in the loop; 0
 // where the loop is empty.
-#[unsafe(no_mangle)]
-pub extern "C" fn upcoming_offset(runin: u64, cycle: u64, t: u64) -> u64
+pub fn upcoming_offset(runin: u64, cycle: u64, t: u64) -> u64
     ensures { Offset runin cycle t result }
 {
     serve::offset(runin, cycle, t)
@@ -40,8 +38,7 @@ pub extern "C" fn upcoming_offset(runin: u64, cycle: u64, t: u64) -> u64
 
 // Reads the text of an answer, as program plantour prints it. Returns 0 or the number of the refusal, and fills the first 32
 // bytes of the block. The places are written over the front of run-in and loop buffer; on a refusal no byte of them changes.
-#[unsafe(no_mangle)]
-pub extern "C" fn read_answer(
+pub fn read_answer(
     text: &[u8],
     block: &mut [u8],
     runin: &mut [u8],
@@ -58,8 +55,7 @@ pub extern "C" fn read_answer(
 }
 
 // Checks a proposed tour. Returns 0 or the number of the refusal, and fills the first 24 bytes of the block.
-#[unsafe(no_mangle)]
-pub extern "C" fn check_tour(plan: &[u8], runin: &[u8], cycle: &[u8], block: &mut [u8]) -> u32
+pub fn check_tour(plan: &[u8], runin: &[u8], cycle: &[u8], block: &mut [u8]) -> u32
     ensures { Checking plan.now runin.now cycle.now block.old block.new result }
 {
     if block.len() < 24 {
