@@ -12,12 +12,7 @@ use readback::{put_reply, reply_number};
 
 // Plans a tour. Returns 0 or the number of the refusal, and fills the first 16 bytes of the answer block. A tour is written
 // over the front of run-in and loop buffer; on a refusal no byte of them changes.
-pub fn plan_tour(
-    plan: &[u8],
-    block: &mut [u8],
-    runin: &mut [u8],
-    cycle: &mut [u8],
-) -> u32
+pub fn plan_tour(plan: &[u8], block: &mut [u8], runin: &mut [u8], cycle: &mut [u8]) -> u32
     ensures { Promise plan.now (buffers block.old runin.old cycle.old) (buffers block.new runin.new cycle.new) result }
 {
     if block.len() < 16 {
@@ -38,12 +33,7 @@ pub fn upcoming_offset(runin: u64, cycle: u64, t: u64) -> u64
 
 // Reads the text of an answer, as program plantour prints it. Returns 0 or the number of the refusal, and fills the first 32
 // bytes of the block. The places are written over the front of run-in and loop buffer; on a refusal no byte of them changes.
-pub fn read_answer(
-    text: &[u8],
-    block: &mut [u8],
-    runin: &mut [u8],
-    cycle: &mut [u8],
-) -> u32
+pub fn read_answer(text: &[u8], block: &mut [u8], runin: &mut [u8], cycle: &mut [u8]) -> u32
     ensures { Reading text.now (buffers block.old runin.old cycle.old) (buffers block.new runin.new cycle.new) result }
 {
     if block.len() < 32 {
