@@ -21,7 +21,13 @@ pub fn answer_text(room: &mut [u8], n: usize, runin: &mut [u8], cycle: &mut [u8]
 }
 
 // Prints the answer to a plan file, by way of the buffers.
-fn print_on(rt: &impl Print, room: &mut [u8], n: usize, runin: &mut [u8], cycle: &mut [u8]) -> io::Result<()>
+fn print_on(
+    rt: &impl Print,
+    room: &mut [u8],
+    n: usize,
+    runin: &mut [u8],
+    cycle: &mut [u8],
+) -> io::Result<()>
     requires { (n ≤ length room.old) × (128 + 4 * (length runin.old + length cycle.old) ≤ length room.old) }
 {
     let size = answer_text(room, n, runin, cycle);
