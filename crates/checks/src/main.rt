@@ -3,64 +3,84 @@
 #![tactic(auto)]
 
 use checker::{Check, Worth};
-use libc::STDOUT_FILENO;
+use std::io;
+use std::io::Read;
 
-fn first(x: u64) {
-    io::print_decimal(STDOUT_FILENO, x);
+fn first(rt: &impl Print, x: u64) -> io::Result<()> {
+    print!(rt; "{x}")
 }
 
-fn next(x: u64) {
-    io::write_all(STDOUT_FILENO, b" ");
-    first(x);
+fn next(rt: &impl Print, x: u64) -> io::Result<()> {
+    print!(rt; " {x}")
 }
 
-fn print_worth(worth: Worth) {
-    next(checker::flag(worth.accepts) as u64);
-    next(worth.cost);
-    next(worth.kept);
+fn print_worth(rt: &impl Print, worth: Worth) -> io::Result<()> {
+    next(rt, checker::flag(worth.accepts) as u64)?;
+    next(rt, worth.cost)?;
+    next(rt, worth.kept)
 }
 
-fn print_check(check: Check) {
-    first(checker::check_number(check) as u64);
-    next(checker::check_line(check) as u64);
-    next(checker::check_index(check));
-    print_worth(checker::worth_of(check));
+fn print_check(rt: &impl Print, check: Check) -> io::Result<()> {
+    first(rt, checker::check_number(check) as u64)?;
+    next(rt, checker::check_line(check) as u64)?;
+    next(rt, checker::check_index(check))?;
+    print_worth(rt, checker::worth_of(check))
 }
 
-fn tell(plan: &[u8], runin: &[u8], cycle: &[u8]) {
-    print_check(checker::check_tour(plan, runin, cycle));
-    io::write_all(STDOUT_FILENO, b"\n");
+fn tell(rt: &impl Print, plan: &[u8], runin: &[u8], cycle: &[u8]) -> io::Result<()> {
+    print_check(rt, checker::check_tour(plan, runin, cycle))?;
+    println!(rt)
 }
 
 // Tells of the next tour, in the parts of the buffers that its frames fill; false where there is none.
-fn tell_next(plan: &mut [u8], runin: &mut [u8], cycle: &mut [u8]) -> bool {
-    let file = frames::next(plan);
+fn tell_next(
+    rt: &impl Print,
+    input: &mut impl Read,
+    plan: &mut [u8],
+    runin: &mut [u8],
+    cycle: &mut [u8],
+) -> io::Result<bool> {
+    let file = frames::next(input, plan);
     let n = file.length;
-    let before = frames::next(runin);
+    let before = frames::next(input, runin);
     let stem = before.length;
-    let frame = frames::next(cycle);
+    let frame = frames::next(input, cycle);
     let turn = frame.length;
     if frame.found {
-        tell(&plan[..n], &runin[..stem], &cycle[..turn]);
+        tell(rt, &plan[..n], &runin[..stem], &cycle[..turn])?;
     }
-    frame.found
+    Ok(frame.found)
 }
 
 // Lends the arrays as slices: the plan has room for one byte more than the longest, a list for 100,000 places.
-fn tell_in(plan: &mut [u8; 60001], runin: &mut [u8; 110000], cycle: &mut [u8; 110000]) -> bool {
-    tell_next(plan, runin, cycle)
+fn tell_in(
+    rt: &impl Print,
+    input: &mut impl Read,
+    plan: &mut [u8; 60001],
+    runin: &mut [u8; 110000],
+    cycle: &mut [u8; 110000],
+) -> io::Result<bool> {
+    tell_next(rt, input, plan, runin, cycle)
 }
 
-fn tell_all(plan: &mut [u8; 60001], runin: &mut [u8; 110000], cycle: &mut [u8; 110000]) {
-    let mut left = frames::MOST;
-    while 0 < left && tell_in(plan, runin, cycle) {
-        left -= 1;
+fn tell_all(
+    rt: &impl Print,
+    input: &mut impl Read,
+    plan: &mut [u8; 60001],
+    runin: &mut [u8; 110000],
+    cycle: &mut [u8; 110000],
+) -> io::Result<()> {
+    for _ in 0..frames::MOST {
+        if !tell_in(rt, input, plan, runin, cycle)? {
+            break;
+        }
     }
+    Ok(())
 }
 
-fn main() {
+fn main(rt: HostRuntime) -> io::Result<()> {
     let mut plan = [0u8; 60001];
     let mut runin = [0u8; 110000];
     let mut cycle = [0u8; 110000];
-    tell_all(&mut plan, &mut runin, &mut cycle);
+    tell_all(&rt, &mut rt.stdin(), &mut plan, &mut runin, &mut cycle)
 }

@@ -3,16 +3,25 @@
 //! sentence on standard error tells why.
 #![tactic(auto)]
 
-ghost use Rattle.io.specs.Counts.{IsPrefixLen};
+ghost use Rattle.std.specs.Prelude.{◌≡◌, ◌≤◌, length, IfOk, OnErr};
 
 use checker::{Check, check_index, check_line, check_number, check_tour, flag, worth_of};
 use drawn::{Drawn, Lack, read_tour};
-use libc::{STDERR_FILENO, STDOUT_FILENO};
+use frames::read_full;
+use std::env::{Env, FillError};
+use std::io::{Read, Write};
+use std::rt::Files;
+use std::{fs, io, str};
 use text::fault::{Fault, fault_line};
 use text::read::wide;
 
 // The longest text that is read for a tour.
 const MOST: usize = 2000000;
+
+// What the system says of a name that is too long, and of one that is no text: no such name can be opened.
+const NAME_TOO_LONG: i32 = 36;
+
+const NOT_TEXT: i32 = 84;
 
 // Whether a file was read, and how many bytes it has.
 #[derive(Clone, Copy)]
@@ -21,129 +30,163 @@ struct File {
     length: usize,
 }
 
-fn say(sentence: &[u8]) {
-    io::write_all(STDERR_FILENO, sentence);
+fn print_line(rt: &impl Print, key: &str, x: u64) -> io::Result<()> {
+    println!(rt; "{key}={x}")
 }
 
-fn print_line(key: &[u8], x: u64) {
-    io::write_all(STDOUT_FILENO, key);
-    io::print_decimal(STDOUT_FILENO, x);
-    io::write_all(STDOUT_FILENO, b"\n");
-}
-
-fn print_check(check: Check) {
+fn print_check(rt: &impl Print, check: Check) -> io::Result<()> {
     let worth = worth_of(check);
-    print_line(b"number=", wide(check_number(check)));
-    print_line(b"line=", check_line(check) as u64);
-    print_line(b"index=", check_index(check));
-    print_line(b"accepts=", wide(flag(worth.accepts)));
-    print_line(b"cost=", worth.cost);
-    print_line(b"kept=", worth.kept);
+    print_line(rt, "number", wide(check_number(check)))?;
+    print_line(rt, "line", check_line(check) as u64)?;
+    print_line(rt, "index", check_index(check))?;
+    print_line(rt, "accepts", wide(flag(worth.accepts)))?;
+    print_line(rt, "cost", worth.cost)?;
+    print_line(rt, "kept", worth.kept)
 }
 
-fn say_fault(fault: Fault) {
-    say(b"checktour: line ");
-    io::print_decimal(STDERR_FILENO, fault_line(fault) as u64);
-    say(b" of the tour has a fault\n");
+fn say_fault(rt: &impl Eprint, fault: Fault) -> io::Result<()> {
+    let line = fault_line(fault);
+    eprintln!(rt; "checktour: line {line} of the tour has a fault")
 }
 
-fn say_long() {
-    say(b"checktour: the tour is too long\n");
+fn say_long(rt: &impl Eprint) -> io::Result<()> {
+    eprintln!(rt; "checktour: the tour is too long")
 }
 
-fn say_lack(lack: Lack) {
+fn say_lack(rt: &impl Eprint, lack: Lack) -> io::Result<()> {
     match lack {
-        Lack::Missing => say(b"checktour: no line of the tour begins with runin=\n"),
-        Lack::Faulty(fault) => say_fault(fault),
-        Lack::Long => say_long(),
+        Lack::Missing => eprintln!(rt; "checktour: no line of the tour begins with runin="),
+        Lack::Faulty(fault) => say_fault(rt, fault),
+        Lack::Long => say_long(rt),
     }
 }
 
+// Says the sentence with the reason of the error, without the number that std puts behind it.
+fn say_unread(rt: &impl Eprint, sentence: &str, error: io::Error) -> io::Result<()> {
+    let mut told = [0u8; 512];
+    write!(&mut told[..], "{error}")?;
+    let reason = str::from_utf8(&told)
+        .unwrap_or("")
+        .split(" (os error ")
+        .next()
+        .unwrap_or("");
+    eprintln!(rt; "{sentence}: {reason}")
+}
+
 // Checks the tour of a text, by way of the buffers.
-fn check_text(plan: &[u8], text: &[u8], runin: &mut [u8], cycle: &mut [u8]) {
+fn check_text<R: Print + Eprint>(
+    rt: &R,
+    plan: &[u8],
+    text: &[u8],
+    runin: &mut [u8],
+    cycle: &mut [u8],
+) -> io::Result<()> {
     let drawn = read_tour(text, runin, cycle);
     match drawn {
         Drawn::Tour(x) => {
             let stem = x.stem;
             let turn = x.cycle;
-            print_check(check_tour(plan, &runin[..stem], &cycle[..turn]));
+            print_check(rt, check_tour(plan, &runin[..stem], &cycle[..turn]))
         }
-        Drawn::Nothing(lack) => say_lack(lack),
+        Drawn::Nothing(lack) => say_lack(rt, lack),
     }
 }
 
-// Opens the file that argument i names; negative where it cannot be read. A folder is told by a read of no byte.
-fn open_file(i: usize) -> i32 {
-    let mut name = io::buffer();
-    let n = os::arg(i, &mut name);
-    if os::errno() != 0 {
-        return -1;
-    }
-    let file = os::open_read(&name[..n]);
-    if file < 0 {
-        return file;
-    }
-    let mut none = [0u8; 0];
-    if libc::read(file, &mut none) < 0 {
-        return -1;
-    }
-    file
+// Opens the file that argument i names. A folder is told by a read of no byte.
+fn open_file<R: Env + Files>(rt: &R, i: usize) -> io::Result<R::File> {
+    let mut name = [0u8; 4096];
+    let Ok(n) = rt.arg(i, &mut name) else {
+        return Err(io::Error::from_raw_os_error(NAME_TOO_LONG));
+    };
+    let Ok(path) = str::from_utf8(&name[..n]) else {
+        return Err(io::Error::from_raw_os_error(NOT_TEXT));
+    };
+    let mut file = fs::open(rt, path)?;
+    file.read(&mut [])?;
+    Ok(file)
 }
 
 // Reads the file that argument i names, as far as the buffer has room. Where it cannot be read, the sentence is said with the reason.
-fn read_file(i: usize, sentence: &[u8], buffer: &mut [u8]) -> File
-    ensures { IsPrefixLen result.length buffer.new }
+fn read_file<R: Env + Files + Eprint>(
+    rt: &R,
+    i: usize,
+    sentence: &str,
+    buffer: &mut [u8],
+) -> io::Result<File>
+    ensures ok { IfOk result (λ f. f.length ≤ length buffer.new) }
+    ensures err { OnErr result (buffer.new ≡ buffer.old) }
 {
-    let file = open_file(i);
-    if file < 0 {
-        os::fail(sentence);
-        return File {
-            read: false,
-            length: 0,
-        };
-    }
-    let length = io::read_full(file, buffer);
-    File { read: true, length }
-}
-
-fn check_within(plan: &[u8], text: &[u8], runin: &mut [u8], cycle: &mut [u8]) {
-    if text.len() <= MOST {
-        check_text(plan, text, runin, cycle);
-    } else {
-        say_long();
-    }
-}
-
-fn check_files(plan: &mut [u8], text: &mut [u8], runin: &mut [u8], cycle: &mut [u8]) {
-    let a = read_file(1, b"checktour: the plan cannot be read", plan);
-    let p = a.length;
-    if a.read {
-        let b = read_file(2, b"checktour: the tour cannot be read", text);
-        let t = b.length;
-        if b.read {
-            check_within(&plan[..p], &text[..t], runin, cycle);
+    match open_file(rt, i) {
+        Ok(mut file) => {
+            let length = read_full(&mut file, buffer);
+            Ok(File { read: true, length })
+        }
+        Err(error) => {
+            say_unread(rt, sentence, error)?;
+            Ok(File {
+                read: false,
+                length: 0,
+            })
         }
     }
 }
 
+fn check_within<R: Print + Eprint>(
+    rt: &R,
+    plan: &[u8],
+    text: &[u8],
+    runin: &mut [u8],
+    cycle: &mut [u8],
+) -> io::Result<()> {
+    if text.len() <= MOST {
+        check_text(rt, plan, text, runin, cycle)
+    } else {
+        say_long(rt)
+    }
+}
+
+fn check_files<R: Env + Files + Print + Eprint>(
+    rt: &R,
+    plan: &mut [u8],
+    text: &mut [u8],
+    runin: &mut [u8],
+    cycle: &mut [u8],
+) -> io::Result<()> {
+    let a = read_file(rt, 1, "checktour: the plan cannot be read", plan)?;
+    let p = a.length;
+    if a.read {
+        let b = read_file(rt, 2, "checktour: the tour cannot be read", text)?;
+        let t = b.length;
+        if b.read {
+            check_within(rt, &plan[..p], &text[..t], runin, cycle)?;
+        }
+    }
+    Ok(())
+}
+
 // Lends the arrays as slices. Plan and text have room for one byte more than the longest: of a longer file no more is read.
-fn check_in(
+fn check_in<R: Env + Files + Print + Eprint>(
+    rt: &R,
     plan: &mut [u8; 60001],
     text: &mut [u8; 2000001],
     runin: &mut [u8; 1000000],
     cycle: &mut [u8; 1000000],
-) {
-    check_files(plan, text, runin, cycle);
+) -> io::Result<()> {
+    check_files(rt, plan, text, runin, cycle)
 }
 
-fn main() {
-    if os::arg_count() != 3 {
-        say(b"usage: checktour PLAN TOUR\n");
-        return;
+// Whether there is an argument i, however long it is.
+fn has_arg(rt: &impl Env, i: usize) -> bool {
+    !matches!(rt.arg(i, &mut []), Err(FillError::NotPresent))
+}
+
+fn main(rt: HostRuntime) -> io::Result<()> {
+    if !has_arg(&rt, 2) || has_arg(&rt, 3) {
+        return eprintln!(rt; "usage: checktour PLAN TOUR");
     }
     let mut plan = [0u8; 60001];
     let mut text = [0u8; 2000001];
     let mut runin = [0u8; 1000000];
     let mut cycle = [0u8; 1000000];
-    check_in(&mut plan, &mut text, &mut runin, &mut cycle);
+    check_in(&rt, &mut plan, &mut text, &mut runin, &mut cycle)
 }

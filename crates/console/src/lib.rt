@@ -5,8 +5,8 @@ ghost use Rattle.std.specs.Prelude.{◌+◌, ◌*◌, ◌≤◌, length, take};
 ghost use Rattle.console.specs.Printed.{Printed};
 
 use answer::write_text;
-use libc::STDOUT_FILENO;
 use planner::file_answer;
+use std::io;
 
 // The six lines that answer a plan file, from `answer=` to `loop=`; gives how many bytes they have. The file is the first n bytes of `room`, and
 // its answer goes over the first bytes of it: once a tour is in its buffers the file is not needed any more.
@@ -21,25 +21,37 @@ pub fn answer_text(room: &mut [u8], n: usize, runin: &mut [u8], cycle: &mut [u8]
 }
 
 // Prints the answer to a plan file, by way of the buffers.
-fn print_on(room: &mut [u8], n: usize, runin: &mut [u8], cycle: &mut [u8])
+fn print_on(
+    rt: &impl Print,
+    room: &mut [u8],
+    n: usize,
+    runin: &mut [u8],
+    cycle: &mut [u8],
+) -> io::Result<()>
     requires { (n ≤ length room.old) × (128 + 4 * (length runin.old + length cycle.old) ≤ length room.old) }
 {
     let size = answer_text(room, n, runin, cycle);
-    io::write_all(STDOUT_FILENO, &room[..size]);
+    rt.write_all(&room[..size])
 }
 
 // Lends the buffers as slices. Run-in and loop have room for every tour, so that refusal 5 is never given.
-fn print_in(room: &mut [u8; 90240], n: usize, runin: &mut [u8; 2048], cycle: &mut [u8; 20480])
+fn print_in(
+    rt: &impl Print,
+    room: &mut [u8; 90240],
+    n: usize,
+    runin: &mut [u8; 2048],
+    cycle: &mut [u8; 20480],
+) -> io::Result<()>
     requires { n ≤ 90240 }
 {
-    print_on(room, n, runin, cycle);
+    print_on(rt, room, n, runin, cycle)
 }
 
 // Prints what the planner answers to a plan file, which is the first n bytes of `room`; its answer is written there, too.
-pub fn print_answer(room: &mut [u8; 90240], n: usize)
+pub fn print_answer(rt: &impl Print, room: &mut [u8; 90240], n: usize) -> io::Result<()>
     requires { n ≤ 90240 }
 {
     let mut runin = [0u8; 2048];
     let mut cycle = [0u8; 20480];
-    print_in(room, n, &mut runin, &mut cycle);
+    print_in(rt, room, n, &mut runin, &mut cycle)
 }

@@ -2,8 +2,7 @@
 --   length_in head        == the length that the first six bytes of a frame say
 --   Taken f before after == the buffer when frame f was taken: f's bytes are at its front, so many as f says; where there
 --                           was no frame, f has none and the buffer is as before. What stands on the input, no contract can say
-use Rattle.std.specs.Prelude.{◌≡◌, false, List, ℕ, ◌+◌, ◌-◌, ◌*◌, get_or}
-use Rattle.io.specs.Counts.{IsPrefixLen}
+use Rattle.std.specs.Prelude.{◌≡◌, false, List, ℕ, ◌+◌, ◌-◌, ◌*◌, ◌≤◌, length, get_or}
 use Rattle.frames.specs.declared.Frame.{Frame}
 
 -- a byte below '0' counts as 0
@@ -14,5 +13,5 @@ abbrev pub length_in : List ℕ → ℕ
 length_in head = (digit head 0 * 100 + digit head 1 * 10 + digit head 2) * 1000 + (digit head 3 * 100 + digit head 4 * 10 + digit head 5)
 
 pub record Taken (f : Frame) (before after : List ℕ) : Type 0 where
-  pub front : IsPrefixLen f.length after
+  pub front : f.length ≤ length after
   pub none : f.found ≡ false → (f.length ≡ 0) × (after ≡ before)

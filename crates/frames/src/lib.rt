@@ -1,10 +1,11 @@
-//! Texts on standard input, one after the other, each in a frame: its length in six digits, a line's end, and its bytes.
+//! Texts on an input, one after the other, each in a frame: its length in six digits, a line's end, and its bytes.
 #![tactic(auto)]
 
-ghost use Rattle.std.specs.Prelude.{◌≡◌, ◌-◌, ◌≤◌};
+ghost use Rattle.std.specs.Prelude.{◌≡◌, ◌-◌, ◌≤◌, length, take};
+ghost use Rattle.std.specs.Io.KnownBytes.{Consumes};
 ghost use Rattle.frames.specs.Frame.{length_in, Taken};
 
-use libc::STDIN_FILENO;
+use std::io::Read;
 
 // A program takes so many frames at most: nothing says that the input ends, so its loop counts them down.
 pub const MOST: u32 = 100000;
@@ -34,13 +35,28 @@ fn length_in(head: &[u8; 7]) -> usize
     thousands * 1000 + ones
 }
 
+// Reads until the buffer is full, the input ends or a read fails; gives how many bytes it put at the buffer's front.
+pub fn read_full<R: Read>(input: &mut R, buffer: &mut [u8]) -> usize
+    ensures front { result ≤ length buffer.new }
+    ensures bytes { Consumes (R.remaining input.old) (R.remaining input.new) (take result buffer.new) }
+{
+    let mut done = 0;
+    while done < buffer.len() {
+        match input.read(&mut buffer[done..]) {
+            Ok(0) | Err(_) => break,
+            Ok(n) => done += n,
+        }
+    }
+    done
+}
+
 // The next frame. Its bytes go to the front of the buffer, as far as the input has them. None is found where the input ends,
 // or where the buffer has no room.
-pub fn next(buffer: &mut [u8]) -> Frame
+pub fn next<R: Read>(input: &mut R, buffer: &mut [u8]) -> Frame
     ensures { Taken result buffer.old buffer.new }
 {
     let mut head = [0u8; 7];
-    let got = io::read_full(STDIN_FILENO, &mut head);
+    let got = read_full(input, &mut head);
     if got < 7 {
         return Frame {
             found: false,
@@ -54,7 +70,7 @@ pub fn next(buffer: &mut [u8]) -> Frame
             length: 0,
         };
     }
-    let length = io::read_full(STDIN_FILENO, &mut buffer[..n]);
+    let length = read_full(input, &mut buffer[..n]);
     Frame {
         found: true,
         length,

@@ -4,57 +4,56 @@
 
 ghost use Rattle.std.specs.Prelude.{◌≤◌};
 
-use libc::STDOUT_FILENO;
 use plan::size::size_of;
 use plan::{Plan, Refusal};
 use reader::Outcome;
+use std::io;
+use std::io::Read;
 
-fn wide(x: u32) -> u64 {
-    x as u64
+fn print_outcome(rt: &impl Print, outcome: Outcome) -> io::Result<()> {
+    let number = reader::outcome_number(outcome);
+    let line = reader::outcome_line(outcome);
+    println!(rt; "{number} {line}")
 }
 
-fn print_outcome(outcome: Outcome) {
-    io::print_decimal(STDOUT_FILENO, wide(reader::outcome_number(outcome)));
-    io::write_all(STDOUT_FILENO, b" ");
-    io::print_decimal(STDOUT_FILENO, reader::outcome_line(outcome) as u64);
-    io::write_all(STDOUT_FILENO, b"\n");
-}
-
-fn print_plan(p: Plan)
+fn print_plan(rt: &impl Print, p: Plan) -> io::Result<()>
     requires { p.rules ≤ 8 }
 {
     let size = size_of(p);
     if size.large {
-        print_outcome(Outcome::Refused(Refusal::ProductTooLarge));
+        print_outcome(rt, Outcome::Refused(Refusal::ProductTooLarge))
     } else {
-        print_outcome(Outcome::Plan);
+        print_outcome(rt, Outcome::Plan)
     }
 }
 
-fn tell(text: &[u8]) {
+fn tell(rt: &impl Print, text: &[u8]) -> io::Result<()> {
     let reading = reader::read_plan(text);
     let outcome = reading.outcome;
     let p = reading.plan;
     match outcome {
-        Outcome::Plan => print_plan(p),
-        Outcome::Refused(x) => print_outcome(Outcome::Refused(x)),
+        Outcome::Plan => print_plan(rt, p),
+        Outcome::Refused(x) => print_outcome(rt, Outcome::Refused(x)),
     }
 }
 
 // Prints what the reader makes of the next plan file; false where there is none.
-fn tell_next() -> bool {
-    let mut buffer = io::large_buffer();
-    let frame = frames::next(&mut buffer);
+fn tell_next(rt: &impl Print, input: &mut impl Read) -> io::Result<bool> {
+    let mut buffer = [0u8; 65536];
+    let frame = frames::next(input, &mut buffer);
     if frame.found {
         let n = frame.length;
-        tell(&buffer[..n]);
+        tell(rt, &buffer[..n])?;
     }
-    frame.found
+    Ok(frame.found)
 }
 
-fn main() {
-    let mut left = frames::MOST;
-    while 0 < left && tell_next() {
-        left -= 1;
+fn main(rt: HostRuntime) -> io::Result<()> {
+    let mut input = rt.stdin();
+    for _ in 0..frames::MOST {
+        if !tell_next(&rt, &mut input)? {
+            break;
+        }
     }
+    Ok(())
 }

@@ -5,32 +5,32 @@
 
 ghost use Rattle.std.specs.Prelude.{◌<◌};
 
-use libc::STDOUT_FILENO;
 use readback::{Record, Reply};
+use std::io;
+use std::io::Read;
 use text::read::wide;
 
-fn first(x: u64) {
-    io::print_decimal(STDOUT_FILENO, x);
+fn first(rt: &impl Print, x: u64) -> io::Result<()> {
+    print!(rt; "{x}")
 }
 
-fn next(x: u64) {
-    io::write_all(STDOUT_FILENO, b" ");
-    first(x);
+fn next(rt: &impl Print, x: u64) -> io::Result<()> {
+    print!(rt; " {x}")
 }
 
-fn print_record(record: Record) {
-    next(wide(record.number));
-    next(wide(record.line));
-    next(wide(record.cost));
-    next(wide(record.kept));
-    next(record.stem as u64);
-    next(record.cycle as u64);
+fn print_record(rt: &impl Print, record: Record) -> io::Result<()> {
+    next(rt, wide(record.number))?;
+    next(rt, wide(record.line))?;
+    next(rt, wide(record.cost))?;
+    next(rt, wide(record.kept))?;
+    next(rt, record.stem as u64)?;
+    next(rt, record.cycle as u64)
 }
 
-fn print_reply(reply: Reply) {
-    first(wide(readback::reply_number(reply)));
-    next(readback::reply_line(reply) as u64);
-    print_record(readback::record_of(reply));
+fn print_reply(rt: &impl Print, reply: Reply) -> io::Result<()> {
+    first(rt, wide(readback::reply_number(reply)))?;
+    next(rt, readback::reply_line(reply) as u64)?;
+    print_record(rt, readback::record_of(reply))
 }
 
 // The sum with one byte more. By the factor the order of the bytes is seen, and by the one that is added how many zeros there are.
@@ -44,50 +44,68 @@ fn grown(sum: u64, b: u8) -> u64
 // A sum over all bytes of a buffer.
 fn sum_of(bytes: &[u8]) -> u64 {
     let mut sum: u64 = 1;
-    let mut i = 0;
-    while i < bytes.len() {
-        sum = grown(sum, bytes[i]);
-        i += 1;
+    for b in bytes {
+        sum = grown(sum, *b);
     }
     sum
 }
 
-fn tell(text: &[u8], runin: &mut [u8], cycle: &mut [u8]) {
-    print_reply(readback::read_answer(text, runin, cycle));
-    next(sum_of(runin));
-    next(sum_of(cycle));
-    io::write_all(STDOUT_FILENO, b"\n");
+fn tell(rt: &impl Print, text: &[u8], runin: &mut [u8], cycle: &mut [u8]) -> io::Result<()> {
+    print_reply(rt, readback::read_answer(text, runin, cycle))?;
+    next(rt, sum_of(runin))?;
+    next(rt, sum_of(cycle))?;
+    println!(rt)
 }
 
 // Tells of the next text, in the parts of the buffers that its frames fill; false where there is none.
-fn tell_next(runin: &mut [u8], cycle: &mut [u8], text: &mut [u8]) -> bool {
-    let before = frames::next(runin);
+fn tell_next(
+    rt: &impl Print,
+    input: &mut impl Read,
+    runin: &mut [u8],
+    cycle: &mut [u8],
+    text: &mut [u8],
+) -> io::Result<bool> {
+    let before = frames::next(input, runin);
     let stem = before.length;
-    let between = frames::next(cycle);
+    let between = frames::next(input, cycle);
     let turn = between.length;
-    let frame = frames::next(text);
+    let frame = frames::next(input, text);
     let n = frame.length;
     if frame.found {
-        tell(&text[..n], &mut runin[..stem], &mut cycle[..turn]);
+        tell(rt, &text[..n], &mut runin[..stem], &mut cycle[..turn])?;
     }
-    frame.found
+    Ok(frame.found)
 }
 
 // Lends the arrays as slices: a buffer has room for 100,000 places, and a text for the longest frame.
-fn tell_in(runin: &mut [u8; 110000], cycle: &mut [u8; 110000], text: &mut [u8; 1000000]) -> bool {
-    tell_next(runin, cycle, text)
+fn tell_in(
+    rt: &impl Print,
+    input: &mut impl Read,
+    runin: &mut [u8; 110000],
+    cycle: &mut [u8; 110000],
+    text: &mut [u8; 1000000],
+) -> io::Result<bool> {
+    tell_next(rt, input, runin, cycle, text)
 }
 
-fn tell_all(runin: &mut [u8; 110000], cycle: &mut [u8; 110000], text: &mut [u8; 1000000]) {
-    let mut left = frames::MOST;
-    while 0 < left && tell_in(runin, cycle, text) {
-        left -= 1;
+fn tell_all(
+    rt: &impl Print,
+    input: &mut impl Read,
+    runin: &mut [u8; 110000],
+    cycle: &mut [u8; 110000],
+    text: &mut [u8; 1000000],
+) -> io::Result<()> {
+    for _ in 0..frames::MOST {
+        if !tell_in(rt, input, runin, cycle, text)? {
+            break;
+        }
     }
+    Ok(())
 }
 
-fn main() {
+fn main(rt: HostRuntime) -> io::Result<()> {
     let mut runin = [0u8; 110000];
     let mut cycle = [0u8; 110000];
     let mut text = [0u8; 1000000];
-    tell_all(&mut runin, &mut cycle, &mut text);
+    tell_all(&rt, &mut rt.stdin(), &mut runin, &mut cycle, &mut text)
 }
