@@ -9,7 +9,8 @@
 //! with buffers of every length about the limits, two plans harmed in every way
 //! of some kinds, tours to check, and texts to read as answers; then cases in the
 //! order of their numbers, from CASE (0 if not given) on, until S seconds (20)
-//! have passed or COUNT cases are done. A case is a plan, tours to check beside
+//! of a processor have gone into these, whatever else the machine does, or COUNT
+//! cases are done. A case is a plan, tours to check beside
 //! it and a batch of texts to read, the same on every run. With --bare nothing
 //! lies about the plan and the buffers: a checker of memory then sees each step
 //! beyond them. With --trace each case is told before its first call. The first
@@ -31,6 +32,7 @@ use reference::checking::{
     check_beside_harm, check_blocks, check_by_hand, check_chance_tours, check_drawn,
     check_every_list, check_fixed_copy,
 };
+use reference::clock::processor_time;
 use reference::figures::figures;
 use reference::fixed_copies::fixed_copies;
 use reference::fixed_parking::fixed_parking;
@@ -46,7 +48,7 @@ use reference::watchers::hand_worked;
 use std::io::Write;
 use std::process::exit;
 use std::sync::Mutex;
-use std::time::{Duration, Instant};
+use std::time::Duration;
 
 struct Options {
     seconds: u64,
@@ -85,7 +87,6 @@ fn main() {
     }
     std::thread::spawn(watch);
     let mut tally = Tally::default();
-    let begin = Instant::now();
 
     options.put("figure 9 of 01", None, || check_case_9(LIBRARY));
     options.put("upcoming places", None, || {
@@ -135,7 +136,9 @@ fn main() {
     }
     let end = options.first.saturating_add(options.cases);
     let mut number = options.first;
-    while number < end && begin.elapsed() < Duration::from_secs(options.seconds) {
+    let begin = processor_time();
+    let passed = || (processor_time() - begin) / 1e6;
+    while number < end && passed() < options.seconds as f64 {
         let (case, mut random) = case(number);
         let (name, case) = (format!("case {number}, {}", case.kind), options.lay(case));
         options.put(&name, Some(("plan", &case.file)), || {
@@ -162,10 +165,10 @@ fn main() {
         exit(1);
     }
     println!(
-        "compare: no difference; {} generated cases from {}, {} s",
+        "compare: no difference; {} generated cases from {}, in {} s",
         number - options.first,
         options.first,
-        begin.elapsed().as_secs()
+        passed() as u64
     );
 }
 
