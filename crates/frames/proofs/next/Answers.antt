@@ -19,5 +19,5 @@ returns-clause-bytes g c =
       head = head;
       whole = search rules;
       long = omega (arith, c.read_full-length.ensures.front, c.read_full-length.auto.buffer, room, c.length_in-n.ensures);
-      bytes = subst (Consumes _ _) (ap (λ l. l ++ take k part) whole ∙ ap (λ l. head ++ l) (sym front)) (Consumes-trans _ _ _ _ _ c.read_full-got.ensures.bytes c.read_full-length.ensures.bytes)
+      bytes = subst (Consumes _ _) (ap (λ l. l ++ take k part) whole ∙ ap (λ l. head ++ l) (sym front)) (Consumes-trans _ _ _ _ _ c.read_full-got.ensures.bytes c.read_full-length.ensures.bytes);
     }
