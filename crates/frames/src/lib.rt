@@ -1,9 +1,9 @@
 //! Texts on an input, one after the other, each in a frame: its length in six digits, a line's end, and its bytes.
 #![tactic(auto)]
 
-ghost use Rattle.std.specs.Prelude.{◌≡◌, ◌-◌, ◌≤◌, length, take};
+ghost use Rattle.std.specs.Prelude.{◌≡◌, ◌-◌, ◌≤◌, true, length, take};
 ghost use Rattle.std.specs.Io.KnownBytes.{Consumes};
-ghost use Rattle.frames.specs.Frame.{length_in, Taken};
+ghost use Rattle.frames.specs.Frame.{length_in, Taken, TakenFrom};
 
 use std::io::Read;
 
@@ -53,7 +53,8 @@ pub fn read_full<R: Read>(input: &mut R, buffer: &mut [u8]) -> usize
 // The next frame. Its bytes go to the front of the buffer, as far as the input has them. None is found where the input ends,
 // or where the buffer has no room.
 pub fn next<R: Read>(input: &mut R, buffer: &mut [u8]) -> Frame
-    ensures { Taken result buffer.old buffer.new }
+    ensures taken { Taken result buffer.old buffer.new }
+    ensures bytes { result.found ≡ true → TakenFrom result (R.remaining input.old) (R.remaining input.new) buffer.new }
 {
     let mut head = [0u8; 7];
     let got = read_full(input, &mut head);
