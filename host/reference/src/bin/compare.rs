@@ -65,6 +65,9 @@ const USAGE: &str = "usage: compare [--seconds S] [--first CASE] [--cases COUNT]
 /// From so many seconds on a run should meet everything.
 const FULL: u64 = 20;
 
+/// On a slow machine such a run goes on until it has met everything, but no longer than so many times its seconds.
+const PATIENT: u64 = 8;
+
 /// The case at work, for the watch.
 static AT_WORK: Mutex<String> = Mutex::new(String::new());
 
@@ -138,7 +141,12 @@ fn main() {
     let mut number = options.first;
     let begin = processor_time();
     let passed = || (processor_time() - begin) / 1e6;
-    while number < end && passed() < options.seconds as f64 {
+    let full = options.cases == u64::MAX && options.seconds >= FULL;
+    let most = (PATIENT * options.seconds) as f64;
+    while number < end
+        && (passed() < options.seconds as f64
+            || (full && passed() < most && !tally.lacks().is_empty()))
+    {
         let (case, mut random) = case(number);
         let (name, case) = (format!("case {number}, {}", case.kind), options.lay(case));
         options.put(&name, Some(("plan", &case.file)), || {
@@ -160,7 +168,7 @@ fn main() {
 
     println!("compare: {NAME}\n{tally}");
     let lacks = tally.lacks();
-    if options.cases == u64::MAX && options.seconds >= FULL && !lacks.is_empty() {
+    if full && !lacks.is_empty() {
         println!("compare: never met: {}", lacks.join(", "));
         exit(1);
     }
