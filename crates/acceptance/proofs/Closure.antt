@@ -1,7 +1,7 @@
 -- `linked R n` is the least relation on the states below n that contains R, is reflexive and is transitive (Warshall's).
---   linked-refl, linked-one == it is reflexive, and contains R
---   linked-trans            == it is transitive, where the state in the middle is below n
---   linked-least            == and it is contained in every relation that is all this
+--   linked_refl, linked_one == it is reflexive, and contains R
+--   linked_trans            == it is transitive, where the state in the middle is below n
+--   linked_least            == and it is contained in every relation that is all this
 use mathlib.Core.Path.{◌≡◌, refl}
 use mathlib.Core.Bool.{Bool, true, ◌&&◌}
 use Prim.Native.Nat.{ℕ, zero, suc, ◌<◌}
@@ -14,57 +14,57 @@ use Rattle.acceptance.specs.Decision.{linked}
 
 module _ (R : ℕ → ℕ → Bool) where
   -- with one state more to pass through: what was linked, and what is linked to that state and from it
-  linked-more : (k q r : ℕ) → linked R k q r ≡ true → linked R (suc k) q r ≡ true
+  linked_more : (k q r : ℕ) → linked R k q r ≡ true → linked R (suc k) q r ≡ true
   unfolding linked
-  linked-more k q r = or_left (linked R k q r) (linked R k q k && linked R k k r)
+  linked_more k q r = or_left (linked R k q r) (linked R k q k && linked R k k r)
 
-  linked-through : (k q r : ℕ) → linked R k q k ≡ true → linked R k k r ≡ true → linked R (suc k) q r ≡ true
+  linked_through : (k q r : ℕ) → linked R k q k ≡ true → linked R k k r ≡ true → linked R (suc k) q r ≡ true
   unfolding linked
-  linked-through k q r g h = or_right (linked R k q r) (linked R k q k && linked R k k r) (and_intro g h)
+  linked_through k q r g h = or_right (linked R k q r) (linked R k q k && linked R k k r) (and_intro g h)
 
-  linked-by : (k q r : ℕ) {C : Type 0} → linked R (suc k) q r ≡ true
+  linked_by : (k q r : ℕ) {C : Type 0} → linked R (suc k) q r ≡ true
       → (linked R k q r ≡ true → C) → (linked R k q k ≡ true → linked R k k r ≡ true → C) → C
   unfolding linked
-  linked-by k q r h f g =
+  linked_by k q r h f g =
       or_elim (linked R k q r) (linked R k q k && linked R k k r) h f
       (λ e. g (and_left (linked R k q k) (linked R k k r) e) (and_right (linked R k q k) (linked R k k r) e))
 
-  pub linked-refl : (k q : ℕ) → linked R k q q ≡ true
+  pub linked_refl : (k q : ℕ) → linked R k q q ≡ true
   unfolding linked
-  linked-refl zero q = or_left (eqb q q) (R q q) (eq-eqb q q refl)
-  linked-refl (suc k) q = linked-more k q q (linked-refl k q)
+  linked_refl zero q = or_left (eqb q q) (R q q) (eq-eqb q q refl)
+  linked_refl (suc k) q = linked_more k q q (linked_refl k q)
 
-  pub linked-one : (k q r : ℕ) → R q r ≡ true → linked R k q r ≡ true
+  pub linked_one : (k q r : ℕ) → R q r ≡ true → linked R k q r ≡ true
   unfolding linked
-  linked-one zero q r h = or_right (eqb q r) (R q r) h
-  linked-one (suc k) q r h = linked-more k q r (linked-one k q r h)
+  linked_one zero q r h = or_right (eqb q r) (R q r) h
+  linked_one (suc k) q r h = linked_more k q r (linked_one k q r h)
 
-  pub linked-trans : (n q m r : ℕ) → m < n → linked R n q m ≡ true → linked R n m r ≡ true → linked R n q r ≡ true
-  linked-trans zero q m r l g h = absurd (omega arith)
-  linked-trans (suc k) q m r l g h = at (ℕ_discrete m k) (linked-trans k)
+  pub linked_trans : (n q m r : ℕ) → m < n → linked R n q m ≡ true → linked R n m r ≡ true → linked R n q r ≡ true
+  linked_trans zero q m r l g h = absurd (omega arith)
+  linked_trans (suc k) q m r l g h = at (ℕ_discrete m k) (linked_trans k)
     where
       to : linked R (suc k) q k ≡ true → linked R k q k ≡ true
-      to e = linked-by k q k e (λ d. d) (λ d _. d)
+      to e = linked_by k q k e (λ d. d) (λ d _. d)
 
       from : linked R (suc k) k r ≡ true → linked R k k r ≡ true
-      from e = linked-by k k r e (λ d. d) (λ _ d. d)
+      from e = linked_by k k r e (λ d. d) (λ _ d. d)
 
       at : Dec (m ≡ k) → ((q m r : ℕ) → m < k → linked R k q m ≡ true → linked R k m r ≡ true → linked R k q r ≡ true) → linked R (suc k) q r ≡ true
-      at (yes e) ih = linked-through k q r (to (rw e at g)) (from (rw e at h))
+      at (yes e) ih = linked_through k q r (to (rw e at g)) (from (rw e at h))
       at (no e) ih =
           let s : m < k = omega arith in
-          linked-by k q m g
-          (λ qm. linked-by k m r h
-          (λ mr. linked-more k q r (ih q m r s qm mr))
-          (λ mk kr. linked-through k q r (ih q m k s qm mk) kr))
-          (λ qk km. linked-by k m r h
-          (λ mr. linked-through k q r qk (ih k m r s km mr))
-          (λ mk kr. linked-through k q r qk kr))
+          linked_by k q m g
+          (λ qm. linked_by k m r h
+          (λ mr. linked_more k q r (ih q m r s qm mr))
+          (λ mk kr. linked_through k q r (ih q m k s qm mk) kr))
+          (λ qk km. linked_by k m r h
+          (λ mr. linked_through k q r qk (ih k m r s km mr))
+          (λ mk kr. linked_through k q r qk kr))
 
-  pub linked-least : (T : ℕ → ℕ → Type 0) → ((q r : ℕ) → q ≡ r → T q r) → ((q r : ℕ) → R q r ≡ true → T q r)
+  pub linked_least : (T : ℕ → ℕ → Type 0) → ((q r : ℕ) → q ≡ r → T q r) → ((q r : ℕ) → R q r ≡ true → T q r)
       → ((q m r : ℕ) → T q m → T m r → T q r) → (k q r : ℕ) → linked R k q r ≡ true → T q r
   unfolding linked
-  linked-least T same one trans zero q r h = or_elim (eqb q r) (R q r) h (λ e. same q r (eqb-true q r e)) (one q r)
-  linked-least T same one trans (suc k) q r h =
-      let ih = linked-least T same one trans k in
-      linked-by k q r h (ih q r) (λ qk kr. trans q k r (ih q k qk) (ih k r kr))
+  linked_least T same one trans zero q r h = or_elim (eqb q r) (R q r) h (λ e. same q r (eqb-true q r e)) (one q r)
+  linked_least T same one trans (suc k) q r h =
+      let ih = linked_least T same one trans k in
+      linked_by k q r h (ih q r) (λ qk kr. trans q k r (ih q k qk) (ih k r kr))

@@ -1,9 +1,9 @@
 -- The loop driven from one state, forwards, by the table of sets.
---   led-below                 == a set of states below n is led on by these alone
+--   led_below                 == a set of states below n is led on by these alone
 --   looked                    == what the table says of a set
---   ending-, course-start, -step, -end == before the first place; one place farther; at the loop's end, as a word
+--   ending-, course_start, -step, -end == before the first place; one place farther; at the loop's end, as a word
 --   going-                    == the same of a state that there may not be
---   worded-turned             == four words more of a turn
+--   worded_turned             == four words more of a turn
 use mathlib.Core.Path.{◌≡◌, refl, sym, ap, ap₂, ◌∙◌}
 use mathlib.Core.Bool.{Bool, true, false, ◌&&◌, ◌||◌, and_comm}
 use mathlib.Core.List.{List}
@@ -22,52 +22,52 @@ use Rattle.base.specs.Bits.{bit, has_bit, Members}
 use Rattle.acceptance.specs.Decision.{after}
 use Rattle.acceptance.specs.Table.{step_in, Narrow, Word, Turned}
 use Rattle.acceptance.specs.Sets.{met_after, led_by, Tabled, Begun, Ending, Course, Going, Worded, Stored, StoredFour}
-use Rattle.base.proofs.Tests.{bool_same, any-intro, any-elim, and_left, and_right}
-use Rattle.base.proofs.Bits.{bit-block, bit-div}
-use Rattle.base.proofs.Members.{has-or, has-and, members-one, members-lt}
+use Rattle.base.proofs.Tests.{bool_same, any_intro, any_elim, and_left, and_right}
+use Rattle.base.proofs.Bits.{bit_block, bit_div}
+use Rattle.base.proofs.Members.{has_or, has_and, members_one, members_lt}
 use Rattle.acceptance.proofs.Gathers.{inside}
 use Rattle.acceptance.proofs.Following.{after_same}
-use Rattle.acceptance.proofs.Forward.{met-same, after_turn, met-meet}
-use Rattle.acceptance.proofs.Deciding.{narrow-lands}
+use Rattle.acceptance.proofs.Forward.{met_same, after_turn, met_meet}
+use Rattle.acceptance.proofs.Deciding.{narrow_lands}
 
-power-lt : (q n : ℕ) → q < n → 2 ^ q < 2 ^ n
-power-lt q n l =
+power_lt : (q n : ℕ) → q < n → 2 ^ q < 2 ^ n
+power_lt q n l =
     let e : 2 ^ suc q ≤ 2 ^ n = pow-le-pow_right (omega arith) {i = suc q} {j = n} l in
-    let d : 2 ^ suc q ≡ 2 ^ q + 2 ^ q = omega (arith, pow-suc' q) in
+    let d : 2 ^ suc q ≡ 2 ^ q + 2 ^ q = omega (arith, pow_suc' q) in
     let p : 1 ≤ 2 ^ q = pow-le-pow_right (omega arith) {i = 0} {j = q} (omega arith) in
     omega (arith, e, d, p)
   where
-    pow-suc' : (q : ℕ) → 2 ^ suc q ≡ 2 ^ q * 2
-    pow-suc' q = rw pow-suc
+    pow_suc' : (q : ℕ) → 2 ^ suc q ≡ 2 ^ q * 2
+    pow_suc' q = rw pow-suc
 
 -- the set of one state of at most eight is a byte
 pub one_byte : (q n one : ℕ) → n ≤ 8 → q < n → one ≡ 2 ^ q → one < 256
-one_byte q n one few l e = rw e (power-lt q 8 (omega arith))
+one_byte q n one few l e = rw e (power_lt q 8 (omega arith))
 
 module _ (steps : List ℕ) (n : ℕ) (few : n ≤ 8) (narrow : Narrow n steps) where
-  pub led-below : (v x r : ℕ) → x < 2 ^ n → led_by steps v x r ≡ any_below n (λ q. has_bit x q && step_in steps v q r)
+  pub led_below : (v x r : ℕ) → x < 2 ^ n → led_by steps v x r ≡ any_below n (λ q. has_bit x q && step_in steps v q r)
   unfolding led_by
-  led-below v x r small = bool_same _ _ there back
+  led_below v x r small = bool_same _ _ there back
     where
       there : any_below 8 (λ q. has_bit x q && step_in steps v q r) ≡ true → any_below n (λ q. has_bit x q && step_in steps v q r) ≡ true
       there h =
-          let f = any-elim (λ q. has_bit x q && step_in steps v q r) 8 h in
-          any-intro (λ q. has_bit x q && step_in steps v q r) n f.0 (inside n x f.0 small (and_left _ _ f.2)) f.2
+          let f = any_elim (λ q. has_bit x q && step_in steps v q r) 8 h in
+          any_intro (λ q. has_bit x q && step_in steps v q r) n f.0 (inside n x f.0 small (and_left _ _ f.2)) f.2
 
       back : any_below n (λ q. has_bit x q && step_in steps v q r) ≡ true → any_below 8 (λ q. has_bit x q && step_in steps v q r) ≡ true
       back h =
-          let f = any-elim (λ q. has_bit x q && step_in steps v q r) n h in
-          any-intro (λ q. has_bit x q && step_in steps v q r) 8 f.0 (omega (arith, f.1)) f.2
+          let f = any_elim (λ q. has_bit x q && step_in steps v q r) n h in
+          any_intro (λ q. has_bit x q && step_in steps v q r) 8 f.0 (omega (arith, f.1)) f.2
 
-  led-small : (v x y : ℕ) → Members y (led_by steps v x) → y < 2 ^ n
+  led_small : (v x y : ℕ) → Members y (led_by steps v x) → y < 2 ^ n
   unfolding led_by
-  led-small v x y m = members-lt n y m (λ i l. none i l (led_by steps v x i) refl)
+  led_small v x y m = members_lt n y m (λ i l. none i l (led_by steps v x i) refl)
     where
       none : (i : ℕ) → n ≤ i → (b : Bool) → led_by steps v x i ≡ b → led_by steps v x i ≡ false
       none i l false e = e
       none i l true e =
-          let f = any-elim (λ q. has_bit x q && step_in steps v q i) 8 e in
-          absurd (omega (arith, l, narrow-lands n steps narrow v f.0 i (and_right (has_bit x f.0) _ f.2)))
+          let f = any_elim (λ q. has_bit x q && step_in steps v q i) 8 e in
+          absurd (omega (arith, l, narrow_lands n steps narrow v f.0 i (and_right (has_bit x f.0) _ f.2)))
 
   pub byte : (x : ℕ) → x < 2 ^ n → x < 256
   byte x h = let e : 2 ^ n ≤ 2 ^ 8 = pow-le-pow_right (omega arith) {i = n} {j = 8} few in omega (arith, h, e)
@@ -78,81 +78,81 @@ module _ (steps : List ℕ) (n : ℕ) (few : n ≤ 8) (narrow : Narrow n steps) 
   looked places v x y sets known t small e = rw e (t.places v x known small)
 
   module _ (vs : List ℕ) (q : ℕ) where
-    pub ending-start : (ends : ℕ) → q < n → ends ≡ 2 ^ q → Ending steps n vs q 0 ends
-    ending-start ends l e = record {
-      small = rw e (power-lt q n l);
-      whole = λ r. after_same (step_in steps) n vs (has_bit ends) (eqb q) (λ s. ap (λ m. has_bit m s) e ∙ (members-one q).has s) r;
+    pub ending_start : (ends : ℕ) → q < n → ends ≡ 2 ^ q → Ending steps n vs q 0 ends
+    ending_start ends l e = record {
+      small = rw e (power_lt q n l);
+      whole = λ r. after_same (step_in steps) n vs (has_bit ends) (eqb q) (λ s. ap (λ m. has_bit m s) e ∙ (members_one q).has s) r;
     }
 
     on : (v ends ends' : ℕ) → ends < 2 ^ n → Members ends' (led_by steps v ends) → (s : ℕ)
         → has_bit ends' s ≡ any_below n (λ p. has_bit ends p && step_in steps v p s)
-    on v ends ends' small m s = m.has s ∙ led-below v ends s small
+    on v ends ends' small m s = m.has s ∙ led_below v ends s small
 
-    pub ending-step : (i ends ends' : ℕ) → i < length vs → Ending steps n vs q i ends → Members ends' (led_by steps (get_or vs i 0) ends)
+    pub ending_step : (i ends ends' : ℕ) → i < length vs → Ending steps n vs q i ends → Members ends' (led_by steps (get_or vs i 0) ends)
         → Ending steps n vs q (i + 1) ends'
     unfolding after
-    ending-step i ends ends' l c m = record {
-      small = led-small (get_or vs i 0) ends ends' m;
+    ending_step i ends ends' l c m = record {
+      small = led_small (get_or vs i 0) ends ends' m;
       whole = λ r.
           ap (λ ws. after (step_in steps) n ws (has_bit ends') r) (ap (λ j. drop j vs) (add-one i))
           ∙ after_same (step_in steps) n (drop (suc i) vs) (has_bit ends') _ (on (get_or vs i 0) ends ends' c.small m) r
           ∙ ap (λ ws. after (step_in steps) n ws (has_bit ends) r) (sym (drop-cons vs i 0 l)) ∙ c.whole r;
     }
 
-    pub ending-end : (i ends : ℕ) → i ≡ length vs → Ending steps n vs q i ends → Members ends (after (step_in steps) n vs (eqb q))
+    pub ending_end : (i ends : ℕ) → i ≡ length vs → Ending steps n vs q i ends → Members ends (after (step_in steps) n vs (eqb q))
     unfolding after
-    ending-end i ends e c =
+    ending_end i ends e c =
         record { has = λ r. ap (λ ws. after (step_in steps) n ws (has_bit ends) r) (sym (ap (λ i. drop i vs) e ∙ drop-length vs)) ∙ c.whole r }
 
   module _ (accept : ℕ) (vs : List ℕ) (q : ℕ) where
-    pub course-start : (ends good : ℕ) → q < n → ends ≡ 2 ^ q → good ≡ bit_and (2 ^ q) accept → Course steps n accept vs q 0 ends good
-    course-start ends good l e g = record {
-      reach = ending-start vs q ends l e;
-      good-small = rw g (omega (arith, power-lt q n l, and_le_l (2 ^ q) accept));
-      good-whole = λ r. met-same (step_in steps) n (has_bit accept) vs (has_bit ends) (eqb q) (has_bit good) (λ s. has_bit accept s && eqb q s) own both r;
+    pub course_start : (ends good : ℕ) → q < n → ends ≡ 2 ^ q → good ≡ bit_and (2 ^ q) accept → Course steps n accept vs q 0 ends good
+    course_start ends good l e g = record {
+      reach = ending_start vs q ends l e;
+      good_small = rw g (omega (arith, power_lt q n l, and_le_l (2 ^ q) accept));
+      good_whole = λ r. met_same (step_in steps) n (has_bit accept) vs (has_bit ends) (eqb q) (has_bit good) (λ s. has_bit accept s && eqb q s) own both r;
     }
       where
         own : (s : ℕ) → has_bit ends s ≡ eqb q s
-        own s = ap (λ m. has_bit m s) e ∙ (members-one q).has s
+        own s = ap (λ m. has_bit m s) e ∙ (members_one q).has s
 
         both : (s : ℕ) → has_bit good s ≡ (has_bit accept s && eqb q s)
         both s =
-            ap (λ m. has_bit m s) g ∙ has-and (2 ^ q) accept s ∙ ap (λ b. b && has_bit accept s) ((members-one q).has s)
+            ap (λ m. has_bit m s) g ∙ has_and (2 ^ q) accept s ∙ ap (λ b. b && has_bit accept s) ((members_one q).has s)
             ∙ and_comm (eqb q s) (has_bit accept s)
 
-    pub course-step : (i ends good ends' led good' : ℕ) → i < length vs → Course steps n accept vs q i ends good
+    pub course_step : (i ends good ends' led good' : ℕ) → i < length vs → Course steps n accept vs q i ends good
         → Members ends' (led_by steps (get_or vs i 0) ends) → Members led (led_by steps (get_or vs i 0) good) → good' ≡ bit_or led (bit_and ends' accept)
         → Course steps n accept vs q (i + 1) ends' good'
     unfolding met_after
-    course-step i ends good ends' led good' l c m k g = record {
-      reach = ending-step vs q i ends ends' l c.reach m;
-      good-small =
-          rw g (or_lt n led (bit_and ends' accept) (led-small (get_or vs i 0) good led k)
-          (omega (arith, led-small (get_or vs i 0) ends ends' m, and_le_l ends' accept)));
-      good-whole = λ r.
+    course_step i ends good ends' led good' l c m k g = record {
+      reach = ending_step vs q i ends ends' l c.reach m;
+      good_small =
+          rw g (or_lt n led (bit_and ends' accept) (led_small (get_or vs i 0) good led k)
+          (omega (arith, led_small (get_or vs i 0) ends ends' m, and_le_l ends' accept)));
+      good_whole = λ r.
           ap (λ ws. met_after (step_in steps) n (has_bit accept) ws (has_bit ends') (has_bit good') r) (ap (λ j. drop j vs) (add-one i))
-          ∙ met-same (step_in steps) n (has_bit accept) (drop (suc i) vs) (has_bit ends') _ (has_bit good') _ (on vs q (get_or vs i 0) ends ends' c.reach.small m) up r
-          ∙ ap (λ ws. met_after (step_in steps) n (has_bit accept) ws (has_bit ends) (has_bit good) r) (sym (drop-cons vs i 0 l)) ∙ c.good-whole r;
+          ∙ met_same (step_in steps) n (has_bit accept) (drop (suc i) vs) (has_bit ends') _ (has_bit good') _ (on vs q (get_or vs i 0) ends ends' c.reach.small m) up r
+          ∙ ap (λ ws. met_after (step_in steps) n (has_bit accept) ws (has_bit ends) (has_bit good) r) (sym (drop-cons vs i 0 l)) ∙ c.good_whole r;
     }
       where
         up : (s : ℕ) → has_bit good' s ≡ (any_below n (λ p. has_bit good p && step_in steps (get_or vs i 0) p s)
             || (has_bit accept s && any_below n (λ p. has_bit ends p && step_in steps (get_or vs i 0) p s)))
         up s =
-            ap (λ m. has_bit m s) g ∙ has-or led (bit_and ends' accept) s
-            ∙ ap₂ ◌||◌ (on vs q (get_or vs i 0) good led c.good-small k s)
-            (has-and ends' accept s ∙ and_comm (has_bit ends' s) (has_bit accept s)
+            ap (λ m. has_bit m s) g ∙ has_or led (bit_and ends' accept) s
+            ∙ ap₂ ◌||◌ (on vs q (get_or vs i 0) good led c.good_small k s)
+            (has_and ends' accept s ∙ and_comm (has_bit ends' s) (has_bit accept s)
             ∙ ap (λ b. has_bit accept s && b) (on vs q (get_or vs i 0) ends ends' c.reach.small m s))
 
-    pub course-end : (i ends good w : ℕ) → q < n → i ≡ length vs → Course steps n accept vs q i ends good → w ≡ ends + good * 2 ^ 32
+    pub course_end : (i ends good w : ℕ) → q < n → i ≡ length vs → Course steps n accept vs q i ends good → w ≡ ends + good * 2 ^ 32
         → Word (step_in steps) n (has_bit accept) vs q w
     unfolding met_after
-    course-end i ends good w l e c d = record {
-      turned = λ r h. low r h ∙ (ending-end vs q i ends e c.reach).has r ∙ after_turn (step_in steps) n (narrow-lands n steps narrow) vs q r l;
-      met = λ r h. high r ∙ good-ended r ∙ c.good-whole r ∙ met-meet (step_in steps) n (has_bit accept) (narrow-lands n steps narrow) vs q r l;
+    course_end i ends good w l e c d = record {
+      turned = λ r h. low r h ∙ (ending_end vs q i ends e c.reach).has r ∙ after_turn (step_in steps) n (narrow_lands n steps narrow) vs q r l;
+      met = λ r h. high r ∙ good_ended r ∙ c.good_whole r ∙ met_meet (step_in steps) n (has_bit accept) (narrow_lands n steps narrow) vs q r l;
     }
       where
-        good-ended : (r : ℕ) → has_bit good r ≡ met_after (step_in steps) n (has_bit accept) (drop i vs) (has_bit ends) (has_bit good) r
-        good-ended r =
+        good_ended : (r : ℕ) → has_bit good r ≡ met_after (step_in steps) n (has_bit accept) (drop i vs) (has_bit ends) (has_bit good) r
+        good_ended r =
             ap (λ ws. met_after (step_in steps) n (has_bit accept) ws (has_bit ends) (has_bit good) r) (sym (ap (λ i. drop i vs) e ∙ drop-length vs))
 
         split : w ≡ good * 2 ^ 32 + ends
@@ -162,14 +162,14 @@ module _ (steps : List ℕ) (n : ℕ) (few : n ≤ 8) (narrow : Narrow n steps) 
         half = let e : 2 ^ n ≤ 2 ^ 32 = pow-le-pow_right (omega arith) {i = n} {j = 32} (omega arith) in omega (arith, c.reach.small, e)
 
         low : (r : ℕ) → r < 32 → has_bit w r ≡ has_bit ends r
-        low r h = ap (λ b. eqb b 1) (ap (λ m. bit m r) split ∙ bit-block 32 good ends r h)
+        low r h = ap (λ b. eqb b 1) (ap (λ m. bit m r) split ∙ bit_block 32 good ends r h)
 
         high : (r : ℕ) → has_bit w (32 + r) ≡ has_bit good r
-        high r = ap (λ b. eqb b 1) (sym (bit-div 32 w r) ∙ ap (λ m. bit m r) (ap (λ m. m / 2 ^ 32) split ∙ digits_div good half))
+        high r = ap (λ b. eqb b 1) (sym (bit_div 32 w r) ∙ ap (λ m. bit m r) (ap (λ m. m / 2 ^ 32) split ∙ digits_div good half))
 
     -- a state that there may not be
     pub going_start : {ends good : ℕ} → Begun q n accept ends good → Going steps n accept vs q 0 ends good
-    going_start {ends} {good} b = record { course = λ l. course-start ends good l (b.own l) (b.own-good l) }
+    going_start {ends} {good} b = record { course = λ l. course_start ends good l (b.own l) (b.own_good l) }
 
     pub going_step : (places i ends good ends' good' : ℕ) (sets row : List ℕ) → i < length vs → get_or vs i 0 < places → Tabled steps n places 0 sets
         → ((x : ℕ) → x < 256 → get_or row x 0 ≡ get_or sets (get_or vs i 0 * 256 + x) 0) → Going steps n accept vs q i ends good
@@ -177,46 +177,46 @@ module _ (steps : List ℕ) (n : ℕ) (few : n ≤ 8) (narrow : Narrow n steps) 
     going_step places i ends good ends' good' sets row l known t same g e f = record {
       course = λ below.
           let c = g.course below in
-          course-step i ends good ends' (get_or row good 0) good' l c
+          course_step i ends good ends' (get_or row good 0) good' l c
           (looked places (get_or vs i 0) ends ends' sets known t c.reach.small (e ∙ same ends (byte ends c.reach.small)))
-          (looked places (get_or vs i 0) good (get_or row good 0) sets known t c.good-small (same good (byte good c.good-small))) f;
+          (looked places (get_or vs i 0) good (get_or row good 0) sets known t c.good_small (same good (byte good c.good_small))) f;
     }
 
     pub going_end : (i ends good w : ℕ) → i ≡ length vs → Going steps n accept vs q i ends good → w ≡ ends + good * 2 ^ 32 → q < n
         → Word (step_in steps) n (has_bit accept) vs q w
-    going_end i ends good w e g d l = course-end i ends good w l e (g.course l) d
+    going_end i ends good w e g d l = course_end i ends good w l e (g.course l) d
 
 -- the part of the sets that belongs to one place
 abbrev pub row_at : List ℕ → ℕ → List ℕ
 row_at sets at = take (at + 256 - at) (drop at sets)
 
-pub row-part : (sets : List ℕ) (at v : ℕ) → at ≡ v * 256 → (x : ℕ) → x < 256 → get_or (row_at sets at) x 0 ≡ get_or sets (v * 256 + x) 0
-row-part sets at v e x h = get_or-take (at + 256 - at) (drop at sets) x 0 (omega arith) ∙ get_or-drop at sets x 0 ∙ ap (λ a. get_or sets (a + x) 0) e
+pub row_part : (sets : List ℕ) (at v : ℕ) → at ≡ v * 256 → (x : ℕ) → x < 256 → get_or (row_at sets at) x 0 ≡ get_or sets (v * 256 + x) 0
+row_part sets at v e x h = get_or-take (at + 256 - at) (drop at sets) x 0 (omega arith) ∙ get_or-drop at sets x 0 ∙ ap (λ a. get_or sets (a + x) 0) e
 
 -- four words more
-pub worded-turned : (steps : List ℕ) (n accept : ℕ) (vs old new : List ℕ) (q a b c d : ℕ) → Turned steps n accept vs (min q n) old
+pub worded_turned : (steps : List ℕ) (n accept : ℕ) (vs old new : List ℕ) (q a b c d : ℕ) → Turned steps n accept vs (min q n) old
     → Worded steps n accept vs q a b c d → StoredFour old q n a b c d new → Turned steps n accept vs (min (q + 4) n) new
-worded-turned steps n accept vs old new q a b c d t w s = record { word = λ p l. at p l (dec_lt p q) (ℕ_discrete p q) (ℕ_discrete p (q + 1)) (ℕ_discrete p (q + 2)) }
+worded_turned steps n accept vs old new q a b c d t w s = record { word = λ p l. at p l (dec_lt p q) (ℕ_discrete p q) (ℕ_discrete p (q + 1)) (ℕ_discrete p (q + 2)) }
   where
     put : (p v x : ℕ) → p ≡ v → get_or new v 0 ≡ x → Word (step_in steps) n (has_bit accept) vs v x → Word (step_in steps) n (has_bit accept) vs p (get_or new p 0)
     put p v x e f k = rw (e, f) k
 
     at : (p : ℕ) → p < min (q + 4) n → Dec (p < q) → Dec (p ≡ q) → Dec (p ≡ q + 1) → Dec (p ≡ q + 2) → Word (step_in steps) n (has_bit accept) vs p (get_or new p 0)
     at p l (yes h) _ _ _ = rw (s.before p h) (t.word p (omega arith))
-    at p l (no h) (yes e) _ _ = let m : q < n = omega arith in put p q a e (s.put_a m) (w.word-a m)
-    at p l (no h) (no e) (yes f) _ = let m : q + 1 < n = omega arith in put p (q + 1) b f (s.put_b m) (w.word-b m)
-    at p l (no h) (no e) (no f) (yes g) = let m : q + 2 < n = omega arith in put p (q + 2) c g (s.put-c m) (w.word-c m)
-    at p l (no h) (no e) (no f) (no g) = let m : q + 3 < n = omega arith in put p (q + 3) d (omega arith) (s.put-d m) (w.word-d m)
+    at p l (no h) (yes e) _ _ = let m : q < n = omega arith in put p q a e (s.put_a m) (w.word_a m)
+    at p l (no h) (no e) (yes f) _ = let m : q + 1 < n = omega arith in put p (q + 1) b f (s.put_b m) (w.word_b m)
+    at p l (no h) (no e) (no f) (yes g) = let m : q + 2 < n = omega arith in put p (q + 2) c g (s.put_c m) (w.word_c m)
+    at p l (no h) (no e) (no f) (no g) = let m : q + 3 < n = omega arith in put p (q + 3) d (omega arith) (s.put_d m) (w.word_d m)
 
-pub stored-four : {r₀ r₁ r₂ r₃ r₄ : List ℕ} {a b c d : ℕ} (q n : ℕ) → Stored r₀ q n a r₁ → Stored r₁ (q + 1) n b r₂ → Stored r₂ (q + 2) n c r₃
+pub stored_four : {r₀ r₁ r₂ r₃ r₄ : List ℕ} {a b c d : ℕ} (q n : ℕ) → Stored r₀ q n a r₁ → Stored r₁ (q + 1) n b r₂ → Stored r₂ (q + 2) n c r₃
     → Stored r₃ (q + 3) n d r₄ → StoredFour r₀ q n a b c d r₄
-stored-four q n s t u v = record {
+stored_four q n s t u v = record {
   put_a = λ l. v.others q (λ e. omega arith) ∙ u.others q (λ e. omega arith) ∙ t.others q (λ e. omega arith) ∙ s.here l;
   put_b = λ l. v.others (q + 1) (λ e. omega arith) ∙ u.others (q + 1) (λ e. omega arith) ∙ t.here l;
-  put-c = λ l. v.others (q + 2) (λ e. omega arith) ∙ u.here l;
-  put-d = λ l. v.here l;
+  put_c = λ l. v.others (q + 2) (λ e. omega arith) ∙ u.here l;
+  put_d = λ l. v.here l;
   before = λ p l. v.others p (λ e. omega arith) ∙ u.others p (λ e. omega arith) ∙ t.others p (λ e. omega arith) ∙ s.others p (λ e. omega arith);
 }
 
-pub turned-few : {steps vs rows : List ℕ} {n accept j k : ℕ} → Turned steps n accept vs j rows → k ≤ j → Turned steps n accept vs k rows
-turned-few t l = record { word = λ q h. t.word q (omega (arith, l)) }
+pub turned_few : {steps vs rows : List ℕ} {n accept j k : ℕ} → Turned steps n accept vs j rows → k ≤ j → Turned steps n accept vs k rows
+turned_few t l = record { word = λ q h. t.word q (omega (arith, l)) }

@@ -1,7 +1,7 @@
 -- The table of steps, filled entry by entry.
---   one-step     == the step of the set of one state is the step of that state
---   steps-own    == so the step of the set of one state of a rule is the set of the states to which that state leads
---   steps-narrow == which is below 2 ^ n, of n states
+--   one_step     == the step of the set of one state is the step of that state
+--   steps_own    == so the step of the set of one state of a rule is the set of the states to which that state leads
+--   steps_narrow == which is below 2 ^ n, of n states
 --   filled_put   == one entry more
 --   filled_none               == before the first row, of a blank table
 --   filled_next  == a row is filled, and the next one begins
@@ -18,39 +18,39 @@ use lib.ListN.{length, get_or, set, replicate}
 use lib.Seq.{get_or-set_same, get_or-set_other}
 use Rattle.base.specs.Below.{any_below}
 use Rattle.base.specs.Bits.{has_bit, Members}
-use Rattle.base.proofs.Tests.{bool_same, any-intro, any-elim, and_intro, and_left, and_right}
-use Rattle.base.proofs.Members.{members-one, members-same, members-lt}
+use Rattle.base.proofs.Tests.{bool_same, any_intro, any_elim, and_intro, and_left, and_right}
+use Rattle.base.proofs.Members.{members_one, members_same, members_lt}
 use Rattle.automata.specs.Automaton.{step}
 use Rattle.automata.specs.Sets.{step_of}
 use Rattle.automata.specs.declared.Automaton.{Automaton}
-use Rattle.automata.proofs.Traps.{step-lands}
+use Rattle.automata.proofs.Traps.{step_lands}
 use Rattle.acceptance.specs.Rule.{Usable}
 use Rattle.acceptance.specs.Table.{Filled}
 
 -- ---- the steps of one state
-pub one-step : (a : Automaton) (x q : ℕ) → q < 32 → (s : ℕ) → step_of a x (2 ^ q) s ≡ step a x q s
+pub one_step : (a : Automaton) (x q : ℕ) → q < 32 → (s : ℕ) → step_of a x (2 ^ q) s ≡ step a x q s
 unfolding step_of
-one-step a x q l s = bool_same _ _ there back
+one_step a x q l s = bool_same _ _ there back
   where
     there : any_below 32 (λ p. has_bit (2 ^ q) p && step a x p s) ≡ true → step a x q s ≡ true
     there h =
-        let f = any-elim (λ p. has_bit (2 ^ q) p && step a x p s) 32 h in
-        let alone : q ≡ f.0 = eqb-true _ _ (sym ((members-one q).has f.0) ∙ and_left _ _ f.2) in
+        let f = any_elim (λ p. has_bit (2 ^ q) p && step a x p s) 32 h in
+        let alone : q ≡ f.0 = eqb-true _ _ (sym ((members_one q).has f.0) ∙ and_left _ _ f.2) in
         ap (λ p. step a x p s) alone ∙ and_right (has_bit (2 ^ q) f.0) _ f.2
 
     back : step a x q s ≡ true → any_below 32 (λ p. has_bit (2 ^ q) p && step a x p s) ≡ true
-    back h = any-intro (λ p. has_bit (2 ^ q) p && step a x p s) 32 q l (and_intro ((members-one q).has q ∙ eq-eqb q q refl) h)
+    back h = any_intro (λ p. has_bit (2 ^ q) p && step a x p s) 32 q l (and_intro ((members_one q).has q ∙ eq-eqb q q refl) h)
 
 module _ {a : Automaton} {next : ℕ} (u : Usable a) (x q : ℕ) where
-  pub steps-own : {one : ℕ} → q < a.states → one ≡ 2 ^ q → Members next (step_of a x one) → Members next (step a x q)
-  steps-own l e m = members-same (one-step a x q (omega (arith, u.few))) (rw e at m)
+  pub steps_own : {one : ℕ} → q < a.states → one ≡ 2 ^ q → Members next (step_of a x one) → Members next (step a x q)
+  steps_own l e m = members_same (one_step a x q (omega (arith, u.few))) (rw e at m)
 
-  pub steps-narrow : {n : ℕ} → n ≡ a.states → Members next (step a x q) → next < 2 ^ n
-  steps-narrow {n} e m = members-lt n next m (λ r l. none r l _ refl)
+  pub steps_narrow : {n : ℕ} → n ≡ a.states → Members next (step a x q) → next < 2 ^ n
+  steps_narrow {n} e m = members_lt n next m (λ r l. none r l _ refl)
     where
       none : (r : ℕ) → n ≤ r → (b : Bool) → step a x q r ≡ b → b ≡ false
       none r l false h = refl
-      none r l true h = absurd (let z : ⊥ = omega (arith, step-lands a x u.to q r h) in z)
+      none r l true h = absurd (let z : ⊥ = omega (arith, step_lands a x u.to q r h) in z)
 
 -- ---- the table
 module _ {δ : ℕ → ℕ → ℕ → Bool} {n v q : ℕ} {steps : List ℕ} where

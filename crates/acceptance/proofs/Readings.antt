@@ -3,12 +3,12 @@
 -- All are of one tour: places 0 and 1 have the labels 1 and 0, the run-in is place 0 and the loop place 1.
 --   label v, word t == the label of place v, and of the place at step t of the tour
 --   hard a, soft a  == the tour is accepted by a, without and with the trap, as decided
---   run-in-only     == an accepting state met only in the run-in does not count: not accepted
---   second-move     == a second fitting move counts as much as the first listed: accepted by it alone
---   fitting-move    == the trap is not entered while a move fits, though another move of the state does not: accepted
+--   run_in_only     == an accepting state met only in the run-in does not count: not accepted
+--   second_move     == a second fitting move counts as much as the first listed: accepted by it alone
+--   fitting_move    == the trap is not entered while a move fits, though another move of the state does not: accepted
 --   no_move         == it is entered, and the state not kept, where none fits: not accepted
---   start-label     == the start place's label is read on leaving the first state (01, case 8): accepted by it alone
---   start-skipped   == and it is not skipped: not accepted, though the loop's label would do
+--   start_label     == the start place's label is read on leaving the first state (01, case 8): accepted by it alone
+--   start_skipped   == and it is not skipped: not accepted, though the loop's label would do
 use mathlib.Core.Path.{◌≡◌, refl}
 use mathlib.Core.Bool.{Bool, true, false}
 use mathlib.Core.List.{List, [], ◌∷◌}
@@ -17,14 +17,14 @@ use native.Mathlib.Omega.{arith}
 use lib.ListN.{get_or}
 use Rattle.base.specs.Below.{any_below}
 use Rattle.base.specs.Bits.{bit}
-use Rattle.base.proofs.Tests.{false-not-true}
+use Rattle.base.proofs.Tests.{false_not_true}
 use Rattle.automata.specs.Automaton.{guard, fits, leads, step, blocked, trap_step, final}
 use Rattle.automata.specs.WellFormed.{Below}
 use Rattle.automata.specs.Acceptance.{HardAccepts, SoftAccepts, lasso_at}
 use Rattle.automata.specs.declared.Automaton.{Automaton}
 use Rattle.automata.proofs.Readings.{early, marked}
 use Rattle.acceptance.specs.Decision.{after, turn, meet, linked, decided}
-use Rattle.acceptance.proofs.Automata.{hard-decided, soft-decided}
+use Rattle.acceptance.proofs.Automata.{hard_decided, soft_decided}
 
 abbrev pub label : ℕ → ℕ
 label v = get_or (1 ∷ 0 ∷ []) v 0
@@ -49,25 +49,25 @@ each_below n (x ∷ xs) h zero = h.0
 each_below n (x ∷ xs) h (suc i) = each_below n xs h.1 i
 
 module _ (a : Automaton) (first : a.first < a.states) (each : Each a.states a.to) where
-  hard-accepts : hard a ≡ true → HardAccepts a word 1 1
-  hard-accepts = (hard-decided a label (0 ∷ []) (1 ∷ []) first (each_below a.states a.to each)).0
+  hard_accepts : hard a ≡ true → HardAccepts a word 1 1
+  hard_accepts = (hard_decided a label (0 ∷ []) (1 ∷ []) first (each_below a.states a.to each)).0
 
-  hard-refuses : hard a ≡ false → HardAccepts a word 1 1 → ⊥
-  hard-refuses e A = false-not-true ((hard-decided a label (0 ∷ []) (1 ∷ []) first (each_below a.states a.to each)).1 A) e
+  hard_refuses : hard a ≡ false → HardAccepts a word 1 1 → ⊥
+  hard_refuses e A = false_not_true ((hard_decided a label (0 ∷ []) (1 ∷ []) first (each_below a.states a.to each)).1 A) e
 
-  soft-accepts : soft a ≡ true → SoftAccepts a word 1 1
-  soft-accepts = (soft-decided a label (0 ∷ []) (1 ∷ []) first (each_below a.states a.to each)).0
+  soft_accepts : soft a ≡ true → SoftAccepts a word 1 1
+  soft_accepts = (soft_decided a label (0 ∷ []) (1 ∷ []) first (each_below a.states a.to each)).0
 
-  soft-refuses : soft a ≡ false → SoftAccepts a word 1 1 → ⊥
-  soft-refuses e A = false-not-true ((soft-decided a label (0 ∷ []) (1 ∷ []) first (each_below a.states a.to each)).1 A) e
+  soft_refuses : soft a ≡ false → SoftAccepts a word 1 1 → ⊥
+  soft_refuses e A = false_not_true ((soft_decided a label (0 ∷ []) (1 ∷ []) first (each_below a.states a.to each)).1 A) e
 
 -- state 0, which accepts, is left for state 1 at once and for ever
-pub run-in-only : hard early ≡ false
+pub run_in_only : hard early ≡ false
 unfolding decided after turn meet linked any_below step leads fits guard final bit
-run-in-only = refl
+run_in_only = refl
 
-pub run-in-only-refused : HardAccepts early word 1 1 → ⊥
-run-in-only-refused = hard-refuses early (omega arith) (omega arith) run-in-only
+pub run_in_only_refused : HardAccepts early word 1 1 → ⊥
+run_in_only_refused = hard_refuses early (omega arith) (omega arith) run_in_only
 
 -- of the two moves from state 0 the first stays there for ever, and the second leads to state 1, which accepts and stays
 abbrev pub branching : Automaton
@@ -83,12 +83,12 @@ branching = record {
   to = 0 ∷ 1 ∷ 1 ∷ [];
 }
 
-pub second-move : hard branching ≡ true
+pub second_move : hard branching ≡ true
 unfolding decided after turn meet linked any_below step leads fits guard final bit
-second-move = refl
+second_move = refl
 
-pub second-move-accepts : HardAccepts branching word 1 1
-second-move-accepts = hard-accepts branching (omega arith) (omega arith) second-move
+pub second_move_accepts : HardAccepts branching word 1 1
+second_move_accepts = hard_accepts branching (omega arith) (omega arith) second_move
 
 -- state 0 accepts; of its two moves, which stay there, one fits where mark 0 is and the other where it is not
 abbrev pub choosing : Automaton
@@ -104,12 +104,12 @@ choosing = record {
   to = 0 ∷ 0 ∷ [];
 }
 
-pub fitting-move : soft choosing ≡ true
+pub fitting_move : soft choosing ≡ true
 unfolding decided after turn meet linked any_below trap_step blocked step leads fits guard final bit
-fitting-move = refl
+fitting_move = refl
 
-pub fitting-move-accepts : SoftAccepts choosing word 1 1
-fitting-move-accepts = soft-accepts choosing (omega arith) (omega arith) fitting-move
+pub fitting_move_accepts : SoftAccepts choosing word 1 1
+fitting_move_accepts = soft_accepts choosing (omega arith) (omega arith) fitting_move
 
 -- state 0 accepts; its one move stays there, and fits where mark 0 is, so not in the loop
 abbrev pub asking : Automaton
@@ -119,24 +119,24 @@ pub no_move : soft asking ≡ false
 unfolding decided after turn meet linked any_below trap_step blocked step leads fits guard final bit
 no_move = refl
 
-pub no-move-refused : SoftAccepts asking word 1 1 → ⊥
-no-move-refused = soft-refuses asking (omega arith) (omega arith) no_move
+pub no_move_refused : SoftAccepts asking word 1 1 → ⊥
+no_move_refused = soft_refuses asking (omega arith) (omega arith) no_move
 
 -- state 1, which accepts and stays, is entered from state 0 where mark 0 is
-pub start-label : soft marked ≡ true
+pub start_label : soft marked ≡ true
 unfolding decided after turn meet linked any_below trap_step blocked step leads fits guard final bit
-start-label = refl
+start_label = refl
 
-pub start-label-accepts : SoftAccepts marked word 1 1
-start-label-accepts = soft-accepts marked (omega arith) (omega arith) start-label
+pub start_label_accepts : SoftAccepts marked word 1 1
+start_label_accepts = soft_accepts marked (omega arith) (omega arith) start_label
 
 -- the same where mark 0 is not
 abbrev pub unmarked : Automaton
 unmarked = record { states = 2; first = 0; accept = 2; moves = 2; from = 0 ∷ 1 ∷ []; need = []; bar = 1 ∷ 0 ∷ []; any = []; to = 1 ∷ 1 ∷ [] }
 
-pub start-skipped : soft unmarked ≡ false
+pub start_skipped : soft unmarked ≡ false
 unfolding decided after turn meet linked any_below trap_step blocked step leads fits guard final bit
-start-skipped = refl
+start_skipped = refl
 
-pub start-skipped-refused : SoftAccepts unmarked word 1 1 → ⊥
-start-skipped-refused = soft-refuses unmarked (omega arith) (omega arith) start-skipped
+pub start_skipped_refused : SoftAccepts unmarked word 1 1 → ⊥
+start_skipped_refused = soft_refuses unmarked (omega arith) (omega arith) start_skipped

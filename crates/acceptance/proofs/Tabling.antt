@@ -1,13 +1,13 @@
 -- The table of the sets of an automaton of at most eight states, filled set by set.
---   step-members                 == an entry of the table of steps is where its state leads
---   led-none, led-more           == where the empty set leads; where a set of states below q leads together with state q
---   extended-start, extended-put == no entry is made yet; one entry more
---   sizes-double, sizes-fit      == the sets of q + 1 states are twice those of q; of at most eight states they are at most 256
---   narrow-byte                  == a set of at most eight states is a byte
+--   step_members                 == an entry of the table of steps is where its state leads
+--   led_none, led_more           == where the empty set leads; where a set of states below q leads together with state q
+--   extended_start, extended_put == no entry is made yet; one entry more
+--   sizes_double, sizes_fit      == the sets of q + 1 states are twice those of q; of at most eight states they are at most 256
+--   narrow_byte                  == a set of at most eight states is a byte
 --   tabled_start                 == no place is tabled yet
---   tabled-first                 == the empty set of place v
---   tabled-extend                == with a state more there are twice as many sets
---   tabled-next                  == a place is tabled, and the next one begins
+--   tabled_first                 == the empty set of place v
+--   tabled_extend                == with a state more there are twice as many sets
+--   tabled_next                  == a place is tabled, and the next one begins
 use mathlib.Core.Path.{◌≡◌, refl, sym, ap, ◌∙◌}
 use mathlib.Core.Bool.{Bool, true, false, ◌&&◌, ◌||◌}
 use mathlib.Core.List.{List}
@@ -24,9 +24,9 @@ use lib.Bits.{bit_or}
 use lib.Pow.{pow_mono}
 use lib.Dec.{eqb}
 use Rattle.base.specs.Bits.{bit, has_bit, Members}
-use Rattle.base.proofs.Tests.{false-not-true, bool_same, any-intro, any-elim, and_intro, and_left, and_right, or_left, or_right, or_elim}
-use Rattle.base.proofs.Bits.{bit-zero, bit_high, bit-add-same, bit-add-other}
-use Rattle.base.proofs.Members.{members-none, members-or, members-same}
+use Rattle.base.proofs.Tests.{false_not_true, bool_same, any_intro, any_elim, and_intro, and_left, and_right, or_left, or_right, or_elim}
+use Rattle.base.proofs.Bits.{bit_zero, bit_high, bit_add_same, bit_add_other}
+use Rattle.base.proofs.Members.{members_none, members_or, members_same}
 use Rattle.acceptance.specs.Table.{step_in, Narrow}
 use Rattle.acceptance.specs.Sets.{led_by, Extended, Tabled}
 
@@ -35,60 +35,60 @@ module _ (steps : List ℕ) (v : ℕ) where
   abbrev by : ℕ → ℕ → ℕ → Bool
   by x r q = has_bit x q && step_in steps v q r
 
-  led-intro : (x r q : ℕ) → q < 8 → has_bit x q ≡ true → step_in steps v q r ≡ true → led_by steps v x r ≡ true
+  led_intro : (x r q : ℕ) → q < 8 → has_bit x q ≡ true → step_in steps v q r ≡ true → led_by steps v x r ≡ true
   unfolding led_by
-  led-intro x r q l m h = any-intro (by x r) 8 q l (and_intro m h)
+  led_intro x r q l m h = any_intro (by x r) 8 q l (and_intro m h)
 
-  led-elim : (x r : ℕ) → led_by steps v x r ≡ true → (q : ℕ) × (q < 8) × (has_bit x q ≡ true) × (step_in steps v q r ≡ true)
+  led_elim : (x r : ℕ) → led_by steps v x r ≡ true → (q : ℕ) × (q < 8) × (has_bit x q ≡ true) × (step_in steps v q r ≡ true)
   unfolding led_by
-  led-elim x r h = let f = any-elim (by x r) 8 h in (f.0, f.1, and_left _ _ f.2, and_right (has_bit x f.0) _ f.2)
+  led_elim x r h = let f = any_elim (by x r) 8 h in (f.0, f.1, and_left _ _ f.2, and_right (has_bit x f.0) _ f.2)
 
-  pub step-members : (q : ℕ) → Members (get_or steps (v * 32 + q) 0) (step_in steps v q)
+  pub step_members : (q : ℕ) → Members (get_or steps (v * 32 + q) 0) (step_in steps v q)
   unfolding step_in
-  step-members q = record { has = λ r. refl }
+  step_members q = record { has = λ r. refl }
 
-  pub led-none : (r : ℕ) → led_by steps v 0 r ≡ false
-  led-none r = none (led_by steps v 0 r) refl
+  pub led_none : (r : ℕ) → led_by steps v 0 r ≡ false
+  led_none r = none (led_by steps v 0 r) refl
     where
       none : (b : Bool) → led_by steps v 0 r ≡ b → b ≡ false
       none false e = refl
-      none true e = let f = led-elim 0 r e in absurd (false-not-true f.2 (rw (bit-zero f.0)))
+      none true e = let f = led_elim 0 r e in absurd (false_not_true f.2 (rw (bit_zero f.0)))
 
   module _ (q x : ℕ) (few : q < 8) (small : x < 2 ^ q) where
     absent : bit x q ≡ 0
     absent = bit_high q x q small (omega arith)
 
     other : (p : ℕ) → (p ≡ q → ⊥) → has_bit (x + 2 ^ q) p ≡ has_bit x p
-    other p apart = ap (λ b. eqb b 1) (bit-add-other q p x absent apart)
+    other p apart = ap (λ b. eqb b 1) (bit_add_other q p x absent apart)
 
     member : has_bit (x + 2 ^ q) q ≡ true
-    member = eq-eqb _ _ (bit-add-same q x absent)
+    member = eq-eqb _ _ (bit_add_same q x absent)
 
-    pub led-more : (r : ℕ) → (led_by steps v x r || step_in steps v q r) ≡ led_by steps v (x + 2 ^ q) r
-    led-more r = bool_same _ _ there back
+    pub led_more : (r : ℕ) → (led_by steps v x r || step_in steps v q r) ≡ led_by steps v (x + 2 ^ q) r
+    led_more r = bool_same _ _ there back
       where
         there : (led_by steps v x r || step_in steps v q r) ≡ true → led_by steps v (x + 2 ^ q) r ≡ true
         there h = or_elim (led_by steps v x r) _ h
             (λ old.
-            let f = led-elim x r old in
-            let apart : f.0 ≡ q → ⊥ = λ e. false-not-true f.2 (ap (has_bit x) e ∙ rw absent) in
-            led-intro _ r f.0 f.1 (other f.0 apart ∙ f.2) f.3)
-            (λ new. led-intro _ r q few member new)
+            let f = led_elim x r old in
+            let apart : f.0 ≡ q → ⊥ = λ e. false_not_true f.2 (ap (has_bit x) e ∙ rw absent) in
+            led_intro _ r f.0 f.1 (other f.0 apart ∙ f.2) f.3)
+            (λ new. led_intro _ r q few member new)
 
         back : led_by steps v (x + 2 ^ q) r ≡ true → (led_by steps v x r || step_in steps v q r) ≡ true
-        back h = let f = led-elim _ r h in at f.0 f.1 f.2 f.3 (ℕ_discrete f.0 q)
+        back h = let f = led_elim _ r h in at f.0 f.1 f.2 f.3 (ℕ_discrete f.0 q)
           where
             at : (p : ℕ) → p < 8 → has_bit (x + 2 ^ q) p ≡ true → step_in steps v p r ≡ true → Dec (p ≡ q) → (led_by steps v x r || step_in steps v q r) ≡ true
             at p l m s (yes e) = or_right (led_by steps v x r) _ (ap (λ p. step_in steps v p r) (sym e) ∙ s)
-            at p l m s (no e) = or_left _ (step_in steps v q r) (led-intro x r p l (sym (other p e) ∙ m) s)
+            at p l m s (no e) = or_left _ (step_in steps v q r) (led_intro x r p l (sym (other p e) ∙ m) s)
 
 -- ---- twice as many entries
-pub extended-start : (at size next : ℕ) (sets : List ℕ) → Extended at size next sets 0 sets
-extended-start at size next sets = record { joined = below_none _; below = λ t l. refl }
+pub extended_start : (at size next : ℕ) (sets : List ℕ) → Extended at size next sets 0 sets
+extended_start at size next sets = record { joined = below_none _; below = λ t l. refl }
 
-pub extended-put : {at size next x : ℕ} {old new : List ℕ} → Extended at size next old x new → x < size → at + size + x < length new
+pub extended_put : {at size next x : ℕ} {old new : List ℕ} → Extended at size next old x new → x < size → at + size + x < length new
     → Extended at size next old (x + 1) (set new (at + size + x) (bit_or (get_or new (at + x) 0) next))
-extended-put {at} {size} {next} {x} {old} {new} e l room = record {
+extended_put {at} {size} {next} {x} {old} {new} e l room = record {
   joined = below_more _ _ (λ y before. kept (at + size + y) (omega arith) ∙ e.joined y before) here;
   below = λ t before. kept t (omega arith) ∙ e.below t before;
 }
@@ -100,34 +100,34 @@ extended-put {at} {size} {next} {x} {old} {new} e l room = record {
     kept t apart = get_or-set_other new (at + size + x) t _ 0 apart
 
 -- ---- sizes
-pub sizes-double : (q : ℕ) {size : ℕ} → size ≡ 2 ^ q → size * 2 ≡ 2 ^ (q + 1)
-sizes-double q power = rw (add-one, pow-suc) (omega arith)
+pub sizes_double : (q : ℕ) {size : ℕ} → size ≡ 2 ^ q → size * 2 ≡ 2 ^ (q + 1)
+sizes_double q power = rw (add-one, pow-suc) (omega arith)
 
-pub sizes-fit : {n q size : ℕ} → size ≡ 2 ^ q → q < n → n ≤ 8 → size + size ≤ 256
-sizes-fit {n} {q} {size} power l few = let most : q + 1 ≤ 8 = omega arith in omega (arith, sizes-double q power, pow_mono most)
+pub sizes_fit : {n q size : ℕ} → size ≡ 2 ^ q → q < n → n ≤ 8 → size + size ≤ 256
+sizes_fit {n} {q} {size} power l few = let most : q + 1 ≤ 8 = omega arith in omega (arith, sizes_double q power, pow_mono most)
 
-pub narrow-byte : {n : ℕ} {steps : List ℕ} → n ≤ 8 → Narrow n steps → (t : ℕ) → get_or steps t 0 < 256
-narrow-byte few w t = omega (arith, w.narrow t, pow_mono few)
+pub narrow_byte : {n : ℕ} {steps : List ℕ} → n ≤ 8 → Narrow n steps → (t : ℕ) → get_or steps t 0 < 256
+narrow_byte few w t = omega (arith, w.narrow t, pow_mono few)
 
 -- ---- the table
 pub tabled_start : (steps : List ℕ) (n : ℕ) (sets : List ℕ) → Tabled steps n 0 0 sets
 tabled_start steps n sets = record { places = λ u x before small. absurd (omega arith); part = below_none _ }
 
 module _ {steps : List ℕ} {n v : ℕ} {sets : List ℕ} where
-  pub tabled-first : Tabled steps n v 0 sets → n ≤ 8 → v * 256 < length sets → Tabled steps n v 1 (set sets (v * 256) 0)
-  tabled-first t few room = record {
+  pub tabled_first : Tabled steps n v 0 sets → n ≤ 8 → v * 256 < length sets → Tabled steps n v 1 (set sets (v * 256) 0)
+  tabled_first t few room = record {
     places = λ u x before small.
         let other = get_or-set_other sets (v * 256) (u * 256 + x) 0 0 (omega (arith, pow_mono few)) in
         rw other (t.places u x before small);
     part = λ x only.
         let none : x ≡ 0 = omega arith in
         let here : v * 256 + 0 ≡ v * 256 = omega arith in
-        rw (none, here, get_or-set_same sets (v * 256) 0 0 room) (members-same (λ r. sym (led-none steps v r)) members-none);
+        rw (none, here, get_or-set_same sets (v * 256) 0 0 room) (members_same (λ r. sym (led_none steps v r)) members_none);
   }
 
-  pub tabled-extend : {size q next : ℕ} {longer : List ℕ} → Tabled steps n v size sets → size ≡ 2 ^ q → q < n → n ≤ 8
+  pub tabled_extend : {size q next : ℕ} {longer : List ℕ} → Tabled steps n v size sets → size ≡ 2 ^ q → q < n → n ≤ 8
       → Extended (v * 256) size next sets size longer → Members next (step_in steps v q) → Tabled steps n v (size * 2) longer
-  tabled-extend {size} {q} {next} {longer} t power l few e m = record {
+  tabled_extend {size} {q} {next} {longer} t power l few e m = record {
     places = λ u x before small. rw (e.below (u * 256 + x) (omega (arith, pow_mono few))) (t.places u x before small);
     part = λ x inside. at x inside (dec_lt x size);
   }
@@ -135,14 +135,14 @@ module _ {steps : List ℕ} {n v : ℕ} {sets : List ℕ} where
       upper : (x : ℕ) → x < size → Members (get_or longer (v * 256 + (x + 2 ^ q)) 0) (led_by steps v (x + 2 ^ q))
       upper x low =
           let place : v * 256 + (x + 2 ^ q) ≡ v * 256 + size + x = omega arith in
-          rw (place, e.joined x low) (members-same (led-more steps v q x (omega arith) (omega arith)) (members-or (t.part x low) m))
+          rw (place, e.joined x low) (members_same (led_more steps v q x (omega arith) (omega arith)) (members_or (t.part x low) m))
 
       at : (x : ℕ) → x < size * 2 → Dec (x < size) → Members (get_or longer (v * 256 + x) 0) (led_by steps v x)
       at x inside (yes low) = rw (e.below (v * 256 + x) (omega arith)) (t.part x low)
       at x inside (no high) = let rest : x - size + 2 ^ q ≡ x = omega arith in rw rest at (upper (x - size) (omega arith))
 
-  pub tabled-next : {size : ℕ} → Tabled steps n v size sets → size ≡ 2 ^ n → Tabled steps n (v + 1) 0 sets
-  tabled-next t power = record { places = λ u x before small. at u x small before (ℕ_discrete u v); part = below_none _ }
+  pub tabled_next : {size : ℕ} → Tabled steps n v size sets → size ≡ 2 ^ n → Tabled steps n (v + 1) 0 sets
+  tabled_next t power = record { places = λ u x before small. at u x small before (ℕ_discrete u v); part = below_none _ }
     where
       at : (u x : ℕ) → x < 2 ^ n → u < v + 1 → Dec (u ≡ v) → Members (get_or sets (u * 256 + x) 0) (led_by steps u x)
       at u x small before (yes d) = rw d (t.part x (omega arith))

@@ -1,10 +1,10 @@
 -- The words of a turn: of each state, to which states a part of the loop leads, and where an accepting state is met on the way.
---   marked-here, marked-not == the lower half of a word is put into the upper one where the state accepts, else not
+--   marked_here, marked_not == the lower half of a word is put into the upper one where the state accepts, else not
 --   word_none               == the words over no entries
---   word-cons, word-before  == the word over one entry more, in front; of a list, its entry i
---   turned-from, turned-last == the words over a list from i on, by another name of i; from its end on
---   turned_none, turned-put == the table of the words, row by row
---   turn-lands, meet-lands  == a turn leads to states below n
+--   word_cons, word_before  == the word over one entry more, in front; of a list, its entry i
+--   turned_from, turned_last == the words over a list from i on, by another name of i; from its end on
+--   turned_none, turned_put == the table of the words, row by row
+--   turn_lands, meet_lands  == a turn leads to states below n
 use mathlib.Core.Path.{◌≡◌, refl, sym, ap, ap₂, ◌∙◌, subst}
 use mathlib.Core.Bool.{Bool, true, false, ◌&&◌, ◌||◌, or-false}
 use mathlib.Core.List.{List, [], ◌∷◌}
@@ -21,41 +21,41 @@ use Rattle.base.specs.Below.{any_below}
 use Rattle.base.specs.Bits.{has_bit, Members}
 use Rattle.acceptance.specs.Decision.{turn, meet}
 use Rattle.acceptance.specs.Table.{step_in, gathered, Marked, Word, Turned}
-use Rattle.base.proofs.Tests.{any_same, any-elim, and_right, or_elim}
-use Rattle.base.proofs.Bits.{bit_moved, bit-moved-low, bit-mod}
-use Rattle.base.proofs.Members.{has-or, members-one}
-use Rattle.acceptance.proofs.Gathers.{gathered-below}
+use Rattle.base.proofs.Tests.{any_same, any_elim, and_right, or_elim}
+use Rattle.base.proofs.Bits.{bit_moved, bit_moved_low, bit_mod}
+use Rattle.base.proofs.Members.{has_or, members_one}
+use Rattle.acceptance.proofs.Gathers.{gathered_below}
 
-pub marked-here : (word : ℕ) (accepting : Bool) → accepting ≡ true → Marked word accepting (bit_or word ((word % 2 ^ 32) * 2 ^ 32))
-marked-here word accepting e = rw e (record {
+pub marked_here : (word : ℕ) (accepting : Bool) → accepting ≡ true → Marked word accepting (bit_or word ((word % 2 ^ 32) * 2 ^ 32))
+marked_here word accepting e = rw e (record {
   low = λ i l.
-      has-or word ((word % 2 ^ 32) * 2 ^ 32) i
-      ∙ ap (λ b. has_bit word i || eqb b 1) (bit-moved-low 32 (word % 2 ^ 32) i l)
+      has_or word ((word % 2 ^ 32) * 2 ^ 32) i
+      ∙ ap (λ b. has_bit word i || eqb b 1) (bit_moved_low 32 (word % 2 ^ 32) i l)
       ∙ or-false (has_bit word i);
   high = λ i l.
-      has-or word ((word % 2 ^ 32) * 2 ^ 32) (32 + i)
-      ∙ ap (λ b. has_bit word (32 + i) || eqb b 1) (bit_moved 32 (word % 2 ^ 32) i ∙ bit-mod 32 word i l);
+      has_or word ((word % 2 ^ 32) * 2 ^ 32) (32 + i)
+      ∙ ap (λ b. has_bit word (32 + i) || eqb b 1) (bit_moved 32 (word % 2 ^ 32) i ∙ bit_mod 32 word i l);
 })
 
-pub marked-not : (word : ℕ) (accepting : Bool) → accepting ≡ false → Marked word accepting word
-marked-not word accepting e = rw e (record { low = λ i l. refl; high = λ i l. sym (or-false (has_bit word (32 + i))) })
+pub marked_not : (word : ℕ) (accepting : Bool) → accepting ≡ false → Marked word accepting word
+marked_not word accepting e = rw e (record { low = λ i l. refl; high = λ i l. sym (or-false (has_bit word (32 + i))) })
 
 module _ (δ : ℕ → ℕ → ℕ → Bool) (n : ℕ) (F : ℕ → Bool) where
-  pub turn-lands : (vs : List ℕ) (q r : ℕ) → q < n → turn δ n vs q r ≡ true → r < n
+  pub turn_lands : (vs : List ℕ) (q r : ℕ) → q < n → turn δ n vs q r ≡ true → r < n
   unfolding turn
-  turn-lands [] q r l h = omega (arith, l, eqb-true q r h)
-  turn-lands (v ∷ vs) q r l h =
-      let f = any-elim (λ s. δ v q s && turn δ n vs s r) n h in
-      turn-lands vs f.0 r f.1 (and_right (δ v q f.0) _ f.2)
+  turn_lands [] q r l h = omega (arith, l, eqb-true q r h)
+  turn_lands (v ∷ vs) q r l h =
+      let f = any_elim (λ s. δ v q s && turn δ n vs s r) n h in
+      turn_lands vs f.0 r f.1 (and_right (δ v q f.0) _ f.2)
 
-  pub meet-lands : (vs : List ℕ) (q r : ℕ) → q < n → meet δ n F vs q r ≡ true → r < n
+  pub meet_lands : (vs : List ℕ) (q r : ℕ) → q < n → meet δ n F vs q r ≡ true → r < n
   unfolding meet
-  meet-lands [] q r l h = omega (arith, l, eqb-true q r (and_right (F q) (eqb q r) h))
-  meet-lands (v ∷ vs) q r l h = or_elim (any_below n (λ s. δ v q s && meet δ n F vs s r)) _ h
+  meet_lands [] q r l h = omega (arith, l, eqb-true q r (and_right (F q) (eqb q r) h))
+  meet_lands (v ∷ vs) q r l h = or_elim (any_below n (λ s. δ v q s && meet δ n F vs s r)) _ h
       (λ on.
-      let f = any-elim (λ s. δ v q s && meet δ n F vs s r) n on in
-      meet-lands vs f.0 r f.1 (and_right (δ v q f.0) _ f.2))
-      (λ here. turn-lands (v ∷ vs) q r l (and_right (F q) _ here))
+      let f = any_elim (λ s. δ v q s && meet δ n F vs s r) n on in
+      meet_lands vs f.0 r f.1 (and_right (δ v q f.0) _ f.2))
+      (λ here. turn_lands (v ∷ vs) q r l (and_right (F q) _ here))
 
   pub word_none : (q one w : ℕ) → q < 32 → one ≡ 2 ^ q → Marked one (F q) w → Word δ n F [] q w
   unfolding turn meet
@@ -65,13 +65,13 @@ module _ (δ : ℕ → ℕ → ℕ → Bool) (n : ℕ) (F : ℕ → Bool) where
   }
     where
       member : (k : ℕ) → has_bit one k ≡ eqb q k
-      member k = ap (λ m. has_bit m k) e ∙ (members-one q).has k
+      member k = ap (λ m. has_bit m k) e ∙ (members_one q).has k
 
 module _ (steps : List ℕ) (n accept : ℕ) where
-  pub word-cons : (v : ℕ) (vs rows : List ℕ) (q next g w : ℕ) → n ≤ 32 → Turned steps n accept vs n rows → next ≡ get_or steps (v * 32 + q) 0 → next < 2 ^ n
+  pub word_cons : (v : ℕ) (vs rows : List ℕ) (q next g w : ℕ) → n ≤ 32 → Turned steps n accept vs n rows → next ≡ get_or steps (v * 32 + q) 0 → next < 2 ^ n
       → Members g (gathered rows 0 next) → Marked g (has_bit accept q) w → Word (step_in steps) n (has_bit accept) (v ∷ vs) q w
   unfolding turn meet step_in
-  word-cons v vs rows q next g w few t e small m k = record {
+  word_cons v vs rows q next g w few t e small m k = record {
     turned = λ r h. k.low r h ∙ on r h;
     met = λ r h. k.high r h ∙ ap₂ (λ a b. a || (has_bit accept q && b)) (up r h) (on r h);
   }
@@ -81,36 +81,36 @@ module _ (steps : List ℕ) (n accept : ℕ) where
 
       on : (r : ℕ) → r < 32 → has_bit g r ≡ any_below n (λ s. step_in steps v q s && turn (step_in steps) n vs s r)
       on r h =
-          m.has r ∙ gathered-below rows 0 n next r few small
+          m.has r ∙ gathered_below rows 0 n next r few small
           ∙ any_same _ _ n (λ s l. ap₂ ◌&&◌ (ap (λ m. has_bit m s) e) (ap (λ m. has_bit m r) (at s) ∙ (t.word s l).turned r h))
 
       up : (r : ℕ) → r < 32 → has_bit g (32 + r) ≡ any_below n (λ s. step_in steps v q s && meet (step_in steps) n (has_bit accept) vs s r)
       up r h =
-          m.has (32 + r) ∙ gathered-below rows 0 n next (32 + r) few small
+          m.has (32 + r) ∙ gathered_below rows 0 n next (32 + r) few small
           ∙ any_same _ _ n (λ s l. ap₂ ◌&&◌ (ap (λ m. has_bit m s) e) (ap (λ m. has_bit m (32 + r)) (at s) ∙ (t.word s l).met r h))
 
   -- in front of the entries of a list from i + 1 on
-  pub word-before : (vs rows : List ℕ) (i q row next g w : ℕ) {b : Bool} → n ≤ 32 → i < length vs → Turned steps n accept (drop (i + 1) vs) n rows
+  pub word_before : (vs rows : List ℕ) (i q row next g w : ℕ) {b : Bool} → n ≤ 32 → i < length vs → Turned steps n accept (drop (i + 1) vs) n rows
       → row ≡ get_or vs i 0 * 32 → next ≡ get_or steps (row + q) 0 → next < 2 ^ n → Members g (gathered rows 0 next) → b ≡ has_bit accept q → Marked g b w
       → Word (step_in steps) n (has_bit accept) (drop i vs) q w
-  word-before vs rows i q row next g w few l t e f small m b k =
+  word_before vs rows i q row next g w few l t e f small m b k =
       rw (drop-cons vs i 0 l)
-      (word-cons (get_or vs i 0) (drop (suc i) vs) rows q next g w few (subst (λ j. Turned steps n accept (drop j vs) n rows) (add-one i) t)
+      (word_cons (get_or vs i 0) (drop (suc i) vs) rows q next g w few (subst (λ j. Turned steps n accept (drop j vs) n rows) (add-one i) t)
       (f ∙ ap (λ r. get_or steps (r + q) 0) e) small m (subst (λ b. Marked g b w) b k))
 
-  pub turned-from : {k : ℕ} {rows : List ℕ} (vs : List ℕ) (i j : ℕ) → i ≡ j → Turned steps n accept (drop i vs) k rows → Turned steps n accept (drop j vs) k rows
-  turned-from {k} {rows} vs i j e t = subst (λ i. Turned steps n accept (drop i vs) k rows) e t
+  pub turned_from : {k : ℕ} {rows : List ℕ} (vs : List ℕ) (i j : ℕ) → i ≡ j → Turned steps n accept (drop i vs) k rows → Turned steps n accept (drop j vs) k rows
+  turned_from {k} {rows} vs i j e t = subst (λ i. Turned steps n accept (drop i vs) k rows) e t
 
-  pub turned-last : {k : ℕ} {rows : List ℕ} (vs : List ℕ) → Turned steps n accept [] k rows → Turned steps n accept (drop (length vs) vs) k rows
-  turned-last {k} {rows} vs t = subst (λ ws. Turned steps n accept ws k rows) (sym (drop-length vs)) t
+  pub turned_last : {k : ℕ} {rows : List ℕ} (vs : List ℕ) → Turned steps n accept [] k rows → Turned steps n accept (drop (length vs) vs) k rows
+  turned_last {k} {rows} vs t = subst (λ ws. Turned steps n accept ws k rows) (sym (drop-length vs)) t
 
   module _ (vs rows : List ℕ) where
     pub turned_none : Turned steps n accept vs 0 rows
     turned_none = record { word = λ q l. absurd (omega arith) }
 
-    pub turned-put : (q w : ℕ) → Turned steps n accept vs q rows → q < length rows → Word (step_in steps) n (has_bit accept) vs q w
+    pub turned_put : (q w : ℕ) → Turned steps n accept vs q rows → q < length rows → Word (step_in steps) n (has_bit accept) vs q w
         → Turned steps n accept vs (q + 1) (set rows q w)
-    turned-put q w t h x = record { word = λ p l. at p l (ℕ_discrete p q) }
+    turned_put q w t h x = record { word = λ p l. at p l (ℕ_discrete p q) }
       where
         at : (p : ℕ) → p < q + 1 → Dec (p ≡ q) → Word (step_in steps) n (has_bit accept) vs p (get_or (set rows q w) p 0)
         at p l (yes e) = rw (e, get_or-set_same rows q w 0 h) x

@@ -42,22 +42,22 @@ pub record Ending (steps : List ℕ) (n : ℕ) (vs : List ℕ) (q i ends : ℕ) 
 
 pub record Course (steps : List ℕ) (n accept : ℕ) (vs : List ℕ) (q i ends good : ℕ) : Type 0 where
   pub reach : Ending steps n vs q i ends
-  pub good-small : good < 2 ^ n
-  pub good-whole : (r : ℕ) → met_after (step_in steps) n (has_bit accept) (drop i vs) (has_bit ends) (has_bit good) r
+  pub good_small : good < 2 ^ n
+  pub good_whole : (r : ℕ) → met_after (step_in steps) n (has_bit accept) (drop i vs) (has_bit ends) (has_bit good) r
       ≡ met_after (step_in steps) n (has_bit accept) vs (eqb q) (λ s. has_bit accept s && eqb q s) r
 
 pub record Begun (q n accept ends good : ℕ) : Type 0 where
   pub own : q < n → ends ≡ 2 ^ q
-  pub own-good : q < n → good ≡ bit_and (2 ^ q) accept
+  pub own_good : q < n → good ≡ bit_and (2 ^ q) accept
 
 pub record Going (steps : List ℕ) (n accept : ℕ) (vs : List ℕ) (q i ends good : ℕ) : Type 0 where
   pub course : q < n → Course steps n accept vs q i ends good
 
 pub record Worded (steps : List ℕ) (n accept : ℕ) (vs : List ℕ) (q a b c d : ℕ) : Type 0 where
-  pub word-a : q < n → Word (step_in steps) n (has_bit accept) vs q a
-  pub word-b : q + 1 < n → Word (step_in steps) n (has_bit accept) vs (q + 1) b
-  pub word-c : q + 2 < n → Word (step_in steps) n (has_bit accept) vs (q + 2) c
-  pub word-d : q + 3 < n → Word (step_in steps) n (has_bit accept) vs (q + 3) d
+  pub word_a : q < n → Word (step_in steps) n (has_bit accept) vs q a
+  pub word_b : q + 1 < n → Word (step_in steps) n (has_bit accept) vs (q + 1) b
+  pub word_c : q + 2 < n → Word (step_in steps) n (has_bit accept) vs (q + 2) c
+  pub word_d : q + 3 < n → Word (step_in steps) n (has_bit accept) vs (q + 3) d
 
 pub record Stored (old : List ℕ) (q n word : ℕ) (new : List ℕ) : Type 0 where
   pub here : q < n → get_or new q 0 ≡ word
@@ -66,6 +66,6 @@ pub record Stored (old : List ℕ) (q n word : ℕ) (new : List ℕ) : Type 0 wh
 pub record StoredFour (old : List ℕ) (q n a b c d : ℕ) (new : List ℕ) : Type 0 where
   pub put_a : q < n → get_or new q 0 ≡ a
   pub put_b : q + 1 < n → get_or new (q + 1) 0 ≡ b
-  pub put-c : q + 2 < n → get_or new (q + 2) 0 ≡ c
-  pub put-d : q + 3 < n → get_or new (q + 3) 0 ≡ d
+  pub put_c : q + 2 < n → get_or new (q + 2) 0 ≡ c
+  pub put_d : q + 3 < n → get_or new (q + 3) 0 ≡ d
   pub before : (p : ℕ) → p < q → get_or new p 0 ≡ get_or old p 0

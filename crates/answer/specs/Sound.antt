@@ -7,11 +7,11 @@ use Rattle.plan.specs.Answers.{kind_of, consistent}
 use Rattle.answer.specs.declared.Answer.{Answer}
 
 pub record Sound (a : Answer) (stem cycle : List ℕ) : Type 0 where
-  pub stem-length : length stem ≡ a.stem
-  pub cycle-length : length cycle ≡ a.cycle
+  pub stem_length : length stem ≡ a.stem
+  pub cycle_length : length cycle ≡ a.cycle
   pub line : a.line < 65536
   pub cost : a.cost < 32000001
   pub kept : a.kept < 256
-  pub stem-places : under 128 stem ≡ true
-  pub cycle-places : under 128 cycle ≡ true
+  pub stem_places : under 128 stem ≡ true
+  pub cycle_places : under 128 cycle ≡ true
   pub agrees : consistent (kind_of a.number) a.line a.cost a.kept a.stem a.cycle ≡ true

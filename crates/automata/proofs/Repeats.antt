@@ -3,15 +3,15 @@
 --   Among xs n ys m    == each of the first n entries of xs is one of the first m of ys
 --   Relisted xs n ys m == and the other way round
 --   Repeated xs n ys m == ys is xs with one of its n entries once more, at any place
---   any-relisted       == some entry passes a test, in the one list as in the other
---   repeated-relisted  == a list with an entry repeated has the same entries
+--   any_relisted       == some entry passes a test, in the one list as in the other
+--   repeated_relisted  == a list with an entry repeated has the same entries
 --   SameMoves a b      == a and b have the same states and list the same moves
 --   RepeatedMove a b   == b is a with one of its moves once more
---   repeated-same      == then they list the same moves
+--   repeated_same      == then they list the same moves
 --   Alike a b          == a and b have the same states, steps and blocked states
---   alike-trap, alike-hard, alike-soft == then their steps with the trap are the same, and they accept the same words
+--   alike_trap, alike_hard, alike_soft == then their steps with the trap are the same, and they accept the same words
 --   same_alike         == automata with the same moves are alike
---   repeated-step, repeated-trap, repeated-hard, repeated-soft
+--   repeated_step, repeated_trap, repeated_hard, repeated_soft
 --                      == so a move that is listed once more changes no step, with the trap or without it, and no acceptance
 use mathlib.Core.Path.{◌≡◌, refl, sym, ap, ◌∙◌}
 use mathlib.Core.Bool.{Bool, true, not, ◌&&◌}
@@ -24,7 +24,7 @@ use Rattle.automata.specs.Automaton.{move, opens, move_count, fits, leads, step,
 use Rattle.automata.specs.Acceptance.{Accepting, HardAccepts, SoftAccepts}
 use Rattle.automata.specs.declared.Automaton.{Automaton}
 use Rattle.automata.specs.declared.Move.{Move}
-use Rattle.base.proofs.Tests.{bool_same, any-intro, any-elim}
+use Rattle.base.proofs.Tests.{bool_same, any_intro, any_elim}
 
 module _ {A : Type 0} where
   pub record Among (xs : ℕ → A) (n : ℕ) (ys : ℕ → A) (m : ℕ) : Type 0 where
@@ -45,24 +45,24 @@ module _ {A : Type 0} where
     pub again : ys at ≡ xs which
     pub after : (i : ℕ) → at ≤ i → i < n → ys (suc i) ≡ xs i
 
-  pub relisted-refl : (xs : ℕ → A) (n : ℕ) → Relisted xs n xs n
-  relisted-refl xs n = let same : Among xs n xs n = record { found = λ i l. (i, l, refl) } in record { there = same; back = same }
+  pub relisted_refl : (xs : ℕ → A) (n : ℕ) → Relisted xs n xs n
+  relisted_refl xs n = let same : Among xs n xs n = record { found = λ i l. (i, l, refl) } in record { there = same; back = same }
 
-  pub relisted-sym : {xs ys : ℕ → A} {n m : ℕ} → Relisted xs n ys m → Relisted ys m xs n
-  relisted-sym r = record { there = r.back; back = r.there }
+  pub relisted_sym : {xs ys : ℕ → A} {n m : ℕ} → Relisted xs n ys m → Relisted ys m xs n
+  relisted_sym r = record { there = r.back; back = r.there }
 
-  pub any-relisted : (p : A → Bool) (xs : ℕ → A) (n : ℕ) (ys : ℕ → A) (m : ℕ) → Relisted xs n ys m
+  pub any_relisted : (p : A → Bool) (xs : ℕ → A) (n : ℕ) (ys : ℕ → A) (m : ℕ) → Relisted xs n ys m
       → any_below n (λ i. p (xs i)) ≡ any_below m (λ i. p (ys i))
-  any-relisted p xs n ys m r = bool_same _ _ (to xs n ys m r.there) (to ys m xs n r.back)
+  any_relisted p xs n ys m r = bool_same _ _ (to xs n ys m r.there) (to ys m xs n r.back)
     where
       to : (xs : ℕ → A) (n : ℕ) (ys : ℕ → A) (m : ℕ) → Among xs n ys m → any_below n (λ i. p (xs i)) ≡ true → any_below m (λ i. p (ys i)) ≡ true
       to xs n ys m among h =
-          let e = any-elim (λ i. p (xs i)) n h in
+          let e = any_elim (λ i. p (xs i)) n h in
           let f = among.found e.0 e.1 in
-          any-intro (λ i. p (ys i)) m f.0 f.1 (ap p (sym f.2) ∙ e.2)
+          any_intro (λ i. p (ys i)) m f.0 f.1 (ap p (sym f.2) ∙ e.2)
 
-  pub repeated-relisted : {xs ys : ℕ → A} {n m : ℕ} → Repeated xs n ys m → Relisted xs n ys m
-  repeated-relisted {xs} {ys} {n} {m} r = record { there = record { found = λ i l. there i l (dec_lt i r.at) }; back = record { found = λ i l. back i l (dec_lt i r.at) (ℕ_discrete i r.at) } }
+  pub repeated_relisted : {xs ys : ℕ → A} {n m : ℕ} → Repeated xs n ys m → Relisted xs n ys m
+  repeated_relisted {xs} {ys} {n} {m} r = record { there = record { found = λ i l. there i l (dec_lt i r.at) }; back = record { found = λ i l. back i l (dec_lt i r.at) (ℕ_discrete i r.at) } }
     where
       there : (i : ℕ) → i < n → Dec (i < r.at) → (j : ℕ) × (j < m) × (xs i ≡ ys j)
       there i l (yes h) = (i, omega (arith, r.longer), sym (r.before i h))
@@ -87,14 +87,14 @@ pub record RepeatedMove (a b : Automaton) : Type 0 where
   pub accept : a.accept ≡ b.accept
   pub moves : Repeated (move a) (move_count a) (move b) (move_count b)
 
-pub repeated-same : {a b : Automaton} → RepeatedMove a b → SameMoves a b
-repeated-same r = record { states = r.states; first = r.first; accept = r.accept; moves = repeated-relisted r.moves }
+pub repeated_same : {a b : Automaton} → RepeatedMove a b → SameMoves a b
+repeated_same r = record { states = r.states; first = r.first; accept = r.accept; moves = repeated_relisted r.moves }
 
 pub same_refl : (a : Automaton) → SameMoves a a
-same_refl a = record { states = refl; first = refl; accept = refl; moves = relisted-refl (move a) (move_count a) }
+same_refl a = record { states = refl; first = refl; accept = refl; moves = relisted_refl (move a) (move_count a) }
 
-pub same-sym : {a b : Automaton} → SameMoves a b → SameMoves b a
-same-sym s = record { states = sym s.states; first = sym s.first; accept = sym s.accept; moves = relisted-sym s.moves }
+pub same_sym : {a b : Automaton} → SameMoves a b → SameMoves b a
+same_sym s = record { states = sym s.states; first = sym s.first; accept = sym s.accept; moves = relisted_sym s.moves }
 
 pub record Alike (a b : Automaton) : Type 0 where
   pub states : a.states ≡ b.states
@@ -104,44 +104,44 @@ pub record Alike (a b : Automaton) : Type 0 where
   pub blocks : (x q : ℕ) → blocked a x q ≡ blocked b x q
 
 module _ (a b : Automaton) (s : Alike a b) where
-  pub alike-trap : (x q r : ℕ) → trap_step a x q r ≡ trap_step b x q r
+  pub alike_trap : (x q r : ℕ) → trap_step a x q r ≡ trap_step b x q r
   unfolding trap_step
-  alike-trap x q r = rw (s.blocks x q, s.steps x q r, s.states)
+  alike_trap x q r = rw (s.blocks x q, s.steps x q r, s.states)
 
-  alike-final : (q : ℕ) → final a q ≡ final b q
+  alike_final : (q : ℕ) → final a q ≡ final b q
   unfolding final
-  alike-final q = rw (s.states, s.accept)
+  alike_final q = rw (s.states, s.accept)
 
-  pub alike-hard : (w : ℕ → ℕ) (r l : ℕ) → HardAccepts a w r l ≡ HardAccepts b w r l
-  alike-hard w r l = λ i. Accepting (λ x q r. s.steps x q r i) (s.first i) (λ q. alike-final q i) w r l
+  pub alike_hard : (w : ℕ → ℕ) (r l : ℕ) → HardAccepts a w r l ≡ HardAccepts b w r l
+  alike_hard w r l = λ i. Accepting (λ x q r. s.steps x q r i) (s.first i) (λ q. alike_final q i) w r l
 
-  pub alike-soft : (w : ℕ → ℕ) (r l : ℕ) → SoftAccepts a w r l ≡ SoftAccepts b w r l
-  alike-soft w r l = λ i. Accepting (λ x q r. alike-trap x q r i) (s.first i) (λ q. alike-final q i) w r l
+  pub alike_soft : (w : ℕ → ℕ) (r l : ℕ) → SoftAccepts a w r l ≡ SoftAccepts b w r l
+  alike_soft w r l = λ i. Accepting (λ x q r. alike_trap x q r i) (s.first i) (λ q. alike_final q i) w r l
 
 module _ (a b : Automaton) (s : SameMoves a b) where
   same_step : (x q r : ℕ) → step a x q r ≡ step b x q r
   unfolding step leads fits
-  same_step x q r = any-relisted (λ (m : Move). (eqb m.from q && opens x m) && eqb m.to r) (move a) (move_count a) (move b) (move_count b) s.moves
+  same_step x q r = any_relisted (λ (m : Move). (eqb m.from q && opens x m) && eqb m.to r) (move a) (move_count a) (move b) (move_count b) s.moves
 
-  same-blocked : (x q : ℕ) → blocked a x q ≡ blocked b x q
+  same_blocked : (x q : ℕ) → blocked a x q ≡ blocked b x q
   unfolding blocked fits
-  same-blocked x q = ap not (any-relisted (λ (m : Move). eqb m.from q && opens x m) (move a) (move_count a) (move b) (move_count b) s.moves)
+  same_blocked x q = ap not (any_relisted (λ (m : Move). eqb m.from q && opens x m) (move a) (move_count a) (move b) (move_count b) s.moves)
 
   pub same_alike : Alike a b
-  same_alike = record { states = s.states; first = s.first; accept = s.accept; steps = same_step; blocks = same-blocked }
+  same_alike = record { states = s.states; first = s.first; accept = s.accept; steps = same_step; blocks = same_blocked }
 
 module _ {a b : Automaton} (again : RepeatedMove a b) where
-  repeated-alike : Alike a b
-  repeated-alike = same_alike a b (repeated-same again)
+  repeated_alike : Alike a b
+  repeated_alike = same_alike a b (repeated_same again)
 
-  pub repeated-step : (x q r : ℕ) → step a x q r ≡ step b x q r
-  repeated-step = repeated-alike.steps
+  pub repeated_step : (x q r : ℕ) → step a x q r ≡ step b x q r
+  repeated_step = repeated_alike.steps
 
-  pub repeated-trap : (x q r : ℕ) → trap_step a x q r ≡ trap_step b x q r
-  repeated-trap = alike-trap a b repeated-alike
+  pub repeated_trap : (x q r : ℕ) → trap_step a x q r ≡ trap_step b x q r
+  repeated_trap = alike_trap a b repeated_alike
 
-  pub repeated-hard : (w : ℕ → ℕ) (r l : ℕ) → HardAccepts a w r l ≡ HardAccepts b w r l
-  repeated-hard = alike-hard a b repeated-alike
+  pub repeated_hard : (w : ℕ → ℕ) (r l : ℕ) → HardAccepts a w r l ≡ HardAccepts b w r l
+  repeated_hard = alike_hard a b repeated_alike
 
-  pub repeated-soft : (w : ℕ → ℕ) (r l : ℕ) → SoftAccepts a w r l ≡ SoftAccepts b w r l
-  repeated-soft = alike-soft a b repeated-alike
+  pub repeated_soft : (w : ℕ → ℕ) (r l : ℕ) → SoftAccepts a w r l ≡ SoftAccepts b w r l
+  repeated_soft = alike_soft a b repeated_alike

@@ -1,8 +1,8 @@
 -- A run-in and a loop spelled otherwise: the loop written twice, or driven once more in the run-in. The places are the same at every
 -- step, and so is what is accepted. The loop may be empty.
---   lasso-doubled, lasso-turned     == the same places
+--   lasso_doubled, lasso_turned     == the same places
 --   Accepts δ q₀ F label stem cycle == 01's acceptance of the labels of a run-in and a loop
---   accepts-doubled, accepts-turned == the same acceptance. From the other spelling to the given one the same run serves, with its
+--   accepts_doubled, accepts_turned == the same acceptance. From the other spelling to the given one the same run serves, with its
 --                                      turns counted otherwise; the other way the run that repeats itself for ever does (Unroll)
 use mathlib.Core.Path.{◌≡◌, refl, sym, ap, ◌∙◌, subst}
 use mathlib.Core.Bool.{Bool, true}
@@ -15,13 +15,13 @@ use native.Mathlib.Omega.{arith}
 use lib.ListN.{length, get_or, length-append, get_or-append}
 use lib.Seq.{get_or-append-add}
 use Rattle.automata.specs.Acceptance.{Accepting, lasso_at}
-use Rattle.automata.proofs.Lassos.{lasso-stem, lasso-cycle, lasso-period}
+use Rattle.automata.proofs.Lassos.{lasso_stem, lasso_cycle, lasso_period}
 use Rattle.automata.proofs.Unroll.{Recurring, recurring, periodic}
 
 -- a list written twice, read round and round
-doubled-at : (cycle : List ℕ) → 0 < length cycle → (i : ℕ)
+doubled_at : (cycle : List ℕ) → 0 < length cycle → (i : ℕ)
     → get_or (cycle ++ cycle) (i % length (cycle ++ cycle)) 0 ≡ get_or cycle (i % length cycle) 0
-doubled-at cycle filled i = rw (length-append cycle cycle, rest) (at (dec_lt m l))
+doubled_at cycle filled i = rw (length-append cycle cycle, rest) (at (dec_lt m l))
   where
     l : ℕ
     l = length cycle
@@ -44,21 +44,21 @@ doubled-at cycle filled i = rw (length-append cycle cycle, rest) (at (dec_lt m l
         let f : m % l ≡ k = ap (λ j. j % l) (sym e) ∙ add-mod_left l k ∙ mod-eq_of_lt g in
         ap (λ j. get_or (cycle ++ cycle) j 0) (sym e) ∙ get_or-append-add cycle cycle k 0 ∙ ap (λ j. get_or cycle j 0) (sym f)
 
-pub lasso-doubled : (stem cycle : List ℕ) (t : ℕ) → lasso_at stem (cycle ++ cycle) t ≡ lasso_at stem cycle t
-lasso-doubled stem [] t = refl
-lasso-doubled stem (x ∷ xs) t = at (dec_lt t (length stem))
+pub lasso_doubled : (stem cycle : List ℕ) (t : ℕ) → lasso_at stem (cycle ++ cycle) t ≡ lasso_at stem cycle t
+lasso_doubled stem [] t = refl
+lasso_doubled stem (x ∷ xs) t = at (dec_lt t (length stem))
   where
     cycle : List ℕ
     cycle = x ∷ xs
 
     at : Dec (t < length stem) → lasso_at stem (cycle ++ cycle) t ≡ lasso_at stem cycle t
-    at (yes h) = lasso-stem stem (cycle ++ cycle) t h ∙ sym (lasso-stem stem cycle t h)
+    at (yes h) = lasso_stem stem (cycle ++ cycle) t h ∙ sym (lasso_stem stem cycle t h)
     at (no h) =
         let g : length stem ≤ t = omega arith in
-        lasso-cycle stem (cycle ++ cycle) t g ∙ doubled-at cycle (omega arith) (t - length stem) ∙ sym (lasso-cycle stem cycle t g)
+        lasso_cycle stem (cycle ++ cycle) t g ∙ doubled_at cycle (omega arith) (t - length stem) ∙ sym (lasso_cycle stem cycle t g)
 
-pub lasso-turned : (stem cycle : List ℕ) (t : ℕ) → lasso_at (stem ++ cycle) cycle t ≡ lasso_at stem cycle t
-lasso-turned stem cycle t = at (dec_lt t r) (dec_lt t (r + l))
+pub lasso_turned : (stem cycle : List ℕ) (t : ℕ) → lasso_at (stem ++ cycle) cycle t ≡ lasso_at stem cycle t
+lasso_turned stem cycle t = at (dec_lt t r) (dec_lt t (r + l))
   where
     r : ℕ
     r = length stem
@@ -70,22 +70,22 @@ lasso-turned stem cycle t = at (dec_lt t r) (dec_lt t (r + l))
     longer = length-append stem cycle
 
     at : Dec (t < r) → Dec (t < r + l) → lasso_at (stem ++ cycle) cycle t ≡ lasso_at stem cycle t
-    at (yes h) d = lasso-stem (stem ++ cycle) cycle t (omega (arith, longer)) ∙ get_or-append stem cycle 0 t h ∙ sym (lasso-stem stem cycle t h)
+    at (yes h) d = lasso_stem (stem ++ cycle) cycle t (omega (arith, longer)) ∙ get_or-append stem cycle 0 t h ∙ sym (lasso_stem stem cycle t h)
     at (no h) (yes g) =
         let i : ℕ = t - r in
         let e : r + i ≡ t = omega arith in
         let f : i % l ≡ i = mod-eq_of_lt (omega arith) in
-        lasso-stem (stem ++ cycle) cycle t (omega (arith, longer))
+        lasso_stem (stem ++ cycle) cycle t (omega (arith, longer))
         ∙ ap (λ j. get_or (stem ++ cycle) j 0) (sym e)
         ∙ get_or-append-add stem cycle i 0
         ∙ ap (λ j. get_or cycle j 0) (sym f)
-        ∙ sym (lasso-cycle stem cycle t (omega arith))
+        ∙ sym (lasso_cycle stem cycle t (omega arith))
     at (no h) (no g) =
         let i : ℕ = t - length (stem ++ cycle) in
         let e : t - r ≡ i + l = omega (arith, longer) in
-        lasso-cycle (stem ++ cycle) cycle t (omega (arith, longer))
+        lasso_cycle (stem ++ cycle) cycle t (omega (arith, longer))
         ∙ ap (λ j. get_or cycle j 0) (sym (ap (λ j. j % l) e ∙ add-mod_right i l))
-        ∙ sym (lasso-cycle stem cycle t (omega arith))
+        ∙ sym (lasso_cycle stem cycle t (omega arith))
 
 abbrev pub Accepts : (ℕ → ℕ → ℕ → Bool) → ℕ → (ℕ → Bool) → (ℕ → ℕ) → List ℕ → List ℕ → Type 0
 Accepts δ q₀ F label stem cycle = Accepting δ q₀ F (λ t. label (lasso_at stem cycle t)) (length stem) (length cycle)
@@ -135,7 +135,7 @@ module _ (δ : ℕ → ℕ → ℕ → Bool) (q₀ : ℕ) (F : ℕ → Bool) (la
   w t = label (lasso_at stem cycle t)
 
   rounds : 0 < l → (A : Accepting δ q₀ F w r l) → Recurring δ q₀ F w (r + A.a * l) (A.b * l)
-  rounds filled = recurring δ q₀ F w r l filled (λ t h. ap label (lasso-period stem cycle t h))
+  rounds filled = recurring δ q₀ F w r l filled (λ t h. ap label (lasso_period stem cycle t h))
 
   -- another spelling of the same places, r' and l' being the lengths of its run-in and of its loop
   respelled : (stem' cycle' : List ℕ) → ((t : ℕ) → lasso_at stem' cycle' t ≡ lasso_at stem cycle t)
@@ -156,21 +156,21 @@ module _ (δ : ℕ → ℕ → ℕ → Bool) (q₀ : ℕ) (F : ℕ → Bool) (la
       there A (yes h) = repeated (rounds h A) (r + l) l A.a A.b 1 A.turns (omega arith) (omega arith) (omega arith)
       there A (no h) = recounted A (r + l) l A.a A.b A.turns (omega arith) (omega arith)
 
-pub accepts-doubled : (δ : ℕ → ℕ → ℕ → Bool) (q₀ : ℕ) (F : ℕ → Bool) (label : ℕ → ℕ) (stem cycle : List ℕ)
+pub accepts_doubled : (δ : ℕ → ℕ → ℕ → Bool) (q₀ : ℕ) (F : ℕ → Bool) (label : ℕ → ℕ) (stem cycle : List ℕ)
     → Accepts δ q₀ F label stem cycle ↔ Accepts δ q₀ F label stem (cycle ++ cycle)
-accepts-doubled δ q₀ F label stem [] = (λ A. A, λ A. A)
-accepts-doubled δ q₀ F label stem (x ∷ xs) =
+accepts_doubled δ q₀ F label stem [] = (λ A. A, λ A. A)
+accepts_doubled δ q₀ F label stem (x ∷ xs) =
     let cycle : List ℕ = x ∷ xs in
     let l : ℕ = length cycle in
     subst (λ T. Accepts δ q₀ F label stem cycle ↔ T)
-    (respelled δ q₀ F label stem cycle stem (cycle ++ cycle) (lasso-doubled stem cycle) (length stem) (l + l) refl (length-append cycle cycle))
+    (respelled δ q₀ F label stem cycle stem (cycle ++ cycle) (lasso_doubled stem cycle) (length stem) (l + l) refl (length-append cycle cycle))
     (doubled δ q₀ F label stem cycle (omega arith))
 
-pub accepts-turned : (δ : ℕ → ℕ → ℕ → Bool) (q₀ : ℕ) (F : ℕ → Bool) (label : ℕ → ℕ) (stem cycle : List ℕ)
+pub accepts_turned : (δ : ℕ → ℕ → ℕ → Bool) (q₀ : ℕ) (F : ℕ → Bool) (label : ℕ → ℕ) (stem cycle : List ℕ)
     → Accepts δ q₀ F label stem cycle ↔ Accepts δ q₀ F label (stem ++ cycle) cycle
-accepts-turned δ q₀ F label stem cycle =
+accepts_turned δ q₀ F label stem cycle =
     let r : ℕ = length stem in
     let l : ℕ = length cycle in
     subst (λ T. Accepts δ q₀ F label stem cycle ↔ T)
-    (respelled δ q₀ F label stem cycle (stem ++ cycle) cycle (lasso-turned stem cycle) (r + l) l (length-append stem cycle) refl)
+    (respelled δ q₀ F label stem cycle (stem ++ cycle) cycle (lasso_turned stem cycle) (r + l) l (length-append stem cycle) refl)
     (turned δ q₀ F label stem cycle)

@@ -1,10 +1,10 @@
 -- Sets of numbers as bits.
---   members-none, members-one == the empty set; the set of one number
---   has-or, has-and           == the members of two sets joined, and of what they share
---   members-or                == two sets joined
---   members-same              == the same set by another property
---   or-member                 == a member is joined to a set without a change
---   members-lt                == a set of numbers below n is below 2 ^ n
+--   members_none, members_one == the empty set; the set of one number
+--   has_or, has_and           == the members of two sets joined, and of what they share
+--   members_or                == two sets joined
+--   members_same              == the same set by another property
+--   or_member                 == a member is joined to a set without a change
+--   members_lt                == a set of numbers below n is below 2 ^ n
 --   lowest-, without-lowest-  == a number that is not 0 has its lowest bit where its trailing zeros end; m AND (m - 1) has the other bits
 use mathlib.Core.Path.{◌≡◌, refl, sym, ap, ◌∙◌}
 use mathlib.Core.Bool.{Bool, true, false, ◌&&◌, ◌||◌}
@@ -17,66 +17,66 @@ use lib.Bits.{bit_and, bit_or, and_le_r}
 use lib.Count.{count_trailing_zeros, under}
 use lib.Dec.{eqb}
 use Rattle.base.specs.Bits.{bit, has_bit, Members}
-use Rattle.base.proofs.Tests.{false-not-true}
-use Rattle.base.proofs.Bits.{bit-lt, bit-zero, bit-and, bit-or, bit-ext, bits-lt, bit-add-same, bit-add-other}
+use Rattle.base.proofs.Tests.{false_not_true}
+use Rattle.base.proofs.Bits.{bit_lt, bit_zero, bit-and, bit-or, bit_ext, bits_lt, bit_add_same, bit_add_other}
 
-pub members-none : Members 0 (λ i. false)
-members-none = record { has = λ i. rw (bit-zero i) }
+pub members_none : Members 0 (λ i. false)
+members_none = record { has = λ i. rw (bit_zero i) }
 
-pub members-one : (i : ℕ) → Members (2 ^ i) (λ k. eqb i k)
-members-one i = record { has = λ k. at k (ℕ_discrete i k) }
+pub members_one : (i : ℕ) → Members (2 ^ i) (λ k. eqb i k)
+members_one i = record { has = λ k. at k (ℕ_discrete i k) }
   where
     alone : 2 ^ i ≡ 0 + 2 ^ i
     alone = omega arith
 
     at : (k : ℕ) → Dec (i ≡ k) → has_bit (2 ^ i) k ≡ eqb i k
-    at k (yes e) = rw (eq-eqb i k e, ← e) (eq-eqb _ _ (ap (λ m. bit m i) alone ∙ bit-add-same i 0 (bit-zero i)))
+    at k (yes e) = rw (eq-eqb i k e, ← e) (eq-eqb _ _ (ap (λ m. bit m i) alone ∙ bit_add_same i 0 (bit_zero i)))
     at k (no e) =
-        let z : bit (2 ^ i) k ≡ 0 = ap (λ m. bit m k) alone ∙ bit-add-other i k 0 (bit-zero i) (λ s. e (sym s)) ∙ bit-zero k in
+        let z : bit (2 ^ i) k ≡ 0 = ap (λ m. bit m k) alone ∙ bit_add_other i k 0 (bit_zero i) (λ s. e (sym s)) ∙ bit_zero k in
         rw (ne_eqb i k e, z)
 
-or-bits : (x y : ℕ) → x < 2 → y < 2 → eqb (max x y) 1 ≡ eqb x 1 || eqb y 1
-or-bits zero y hx hy = let e : max 0 y ≡ y = omega arith in rw e
-or-bits (suc zero) zero hx hy = refl
-or-bits (suc zero) (suc zero) hx hy = refl
-or-bits (suc zero) (suc (suc y)) hx hy = absurd (omega arith)
-or-bits (suc (suc x)) y hx hy = absurd (omega arith)
+or_bits : (x y : ℕ) → x < 2 → y < 2 → eqb (max x y) 1 ≡ eqb x 1 || eqb y 1
+or_bits zero y hx hy = let e : max 0 y ≡ y = omega arith in rw e
+or_bits (suc zero) zero hx hy = refl
+or_bits (suc zero) (suc zero) hx hy = refl
+or_bits (suc zero) (suc (suc y)) hx hy = absurd (omega arith)
+or_bits (suc (suc x)) y hx hy = absurd (omega arith)
 
-pub has-or : (a b i : ℕ) → has_bit (bit_or a b) i ≡ has_bit a i || has_bit b i
-has-or a b i = ap (λ m. eqb m 1) (bit-or a b i) ∙ or-bits (bit a i) (bit b i) (bit-lt a i) (bit-lt b i)
+pub has_or : (a b i : ℕ) → has_bit (bit_or a b) i ≡ has_bit a i || has_bit b i
+has_or a b i = ap (λ m. eqb m 1) (bit-or a b i) ∙ or_bits (bit a i) (bit b i) (bit_lt a i) (bit_lt b i)
 
-and-bits : (x y : ℕ) → x < 2 → y < 2 → eqb (min x y) 1 ≡ eqb x 1 && eqb y 1
-and-bits zero y hx hy = let e : min 0 y ≡ 0 = omega arith in rw e
-and-bits (suc zero) zero hx hy = refl
-and-bits (suc zero) (suc zero) hx hy = refl
-and-bits (suc zero) (suc (suc y)) hx hy = absurd (omega arith)
-and-bits (suc (suc x)) y hx hy = absurd (omega arith)
+and_bits : (x y : ℕ) → x < 2 → y < 2 → eqb (min x y) 1 ≡ eqb x 1 && eqb y 1
+and_bits zero y hx hy = let e : min 0 y ≡ 0 = omega arith in rw e
+and_bits (suc zero) zero hx hy = refl
+and_bits (suc zero) (suc zero) hx hy = refl
+and_bits (suc zero) (suc (suc y)) hx hy = absurd (omega arith)
+and_bits (suc (suc x)) y hx hy = absurd (omega arith)
 
-pub has-and : (a b i : ℕ) → has_bit (bit_and a b) i ≡ has_bit a i && has_bit b i
-has-and a b i = ap (λ m. eqb m 1) (bit-and a b i) ∙ and-bits (bit a i) (bit b i) (bit-lt a i) (bit-lt b i)
+pub has_and : (a b i : ℕ) → has_bit (bit_and a b) i ≡ has_bit a i && has_bit b i
+has_and a b i = ap (λ m. eqb m 1) (bit-and a b i) ∙ and_bits (bit a i) (bit b i) (bit_lt a i) (bit_lt b i)
 
-pub members-or : {a b : ℕ} {P Q : ℕ → Bool} → Members a P → Members b Q → Members (bit_or a b) (λ i. P i || Q i)
-members-or {a} {b} p q = record { has = λ i. has-or a b i ∙ rw (p.has i, q.has i) }
+pub members_or : {a b : ℕ} {P Q : ℕ → Bool} → Members a P → Members b Q → Members (bit_or a b) (λ i. P i || Q i)
+members_or {a} {b} p q = record { has = λ i. has_or a b i ∙ rw (p.has i, q.has i) }
 
-pub members-same : {m : ℕ} {P Q : ℕ → Bool} → ((i : ℕ) → P i ≡ Q i) → Members m P → Members m Q
-members-same e p = record { has = λ i. p.has i ∙ e i }
+pub members_same : {m : ℕ} {P Q : ℕ → Bool} → ((i : ℕ) → P i ≡ Q i) → Members m P → Members m Q
+members_same e p = record { has = λ i. p.has i ∙ e i }
 
-bit-unset : (m i : ℕ) → has_bit m i ≡ false → bit m i ≡ 0
-bit-unset m i h = at (ℕ_discrete (bit m i) 1)
+bit_unset : (m i : ℕ) → has_bit m i ≡ false → bit m i ≡ 0
+bit_unset m i h = at (ℕ_discrete (bit m i) 1)
   where
     at : Dec (bit m i ≡ 1) → bit m i ≡ 0
-    at (yes e) = absurd (false-not-true (eq-eqb _ _ e) h)
-    at (no e) = omega (arith, bit-lt m i)
+    at (yes e) = absurd (false_not_true (eq-eqb _ _ e) h)
+    at (no e) = omega (arith, bit_lt m i)
 
-pub or-member : (m i : ℕ) → has_bit m i ≡ true → bit_or m (2 ^ i) ≡ m
-or-member m i h = bit-ext (bit_or m (2 ^ i)) m (λ k. bit-or m (2 ^ i) k ∙ at k (ℕ_discrete i k))
+pub or_member : (m i : ℕ) → has_bit m i ≡ true → bit_or m (2 ^ i) ≡ m
+or_member m i h = bit_ext (bit_or m (2 ^ i)) m (λ k. bit-or m (2 ^ i) k ∙ at k (ℕ_discrete i k))
   where
     at : (k : ℕ) → Dec (i ≡ k) → max (bit m k) (bit (2 ^ i) k) ≡ bit m k
-    at k (yes e) = rw (← e) (omega (arith, eqb-true (bit m i) 1 h, bit-lt (2 ^ i) i))
-    at k (no e) = omega (arith, bit-unset (2 ^ i) k ((members-one i).has k ∙ ne_eqb i k e))
+    at k (yes e) = rw (← e) (omega (arith, eqb-true (bit m i) 1 h, bit_lt (2 ^ i) i))
+    at k (no e) = omega (arith, bit_unset (2 ^ i) k ((members_one i).has k ∙ ne_eqb i k e))
 
-pub members-lt : {P : ℕ → Bool} (n m : ℕ) → Members m P → ((i : ℕ) → n ≤ i → P i ≡ false) → m < 2 ^ n
-members-lt n m p none = bits-lt n m (λ i l. bit-unset m i (p.has i ∙ none i l))
+pub members_lt : {P : ℕ → Bool} (n m : ℕ) → Members m P → ((i : ℕ) → n ≤ i → P i ≡ false) → m < 2 ^ n
+members_lt n m p none = bits_lt n m (λ i l. bit_unset m i (p.has i ∙ none i l))
 
 -- the lowest bit
 pub lowest_set : (k m : ℕ) → (m ≡ 0 → ⊥) → m < 2 ^ k → (bit m (count_trailing_zeros k m) ≡ 1) × (count_trailing_zeros k m < k)
@@ -128,15 +128,15 @@ lowered (suc k) m some h = at (m % 2) refl (λ some. lowered k (m / 2) some (ome
     at (suc (suc d)) e ih = absurd (omega arith)
 
 module _ (k m : ℕ) (some : m ≡ 0 → ⊥) (small : m < 2 ^ k) where
-  pub without-lowest-here : bit (bit_and m (m - 1)) (count_trailing_zeros k m) ≡ 0
-  without-lowest-here = omega (arith, bit-and m (m - 1) (count_trailing_zeros k m), (lowered k m some small).here)
+  pub without_lowest_here : bit (bit_and m (m - 1)) (count_trailing_zeros k m) ≡ 0
+  without_lowest_here = omega (arith, bit-and m (m - 1) (count_trailing_zeros k m), (lowered k m some small).here)
 
-  pub without-lowest-other : (i : ℕ) → (i ≡ count_trailing_zeros k m → ⊥) → bit (bit_and m (m - 1)) i ≡ bit m i
-  without-lowest-other i apart = bit-and m (m - 1) i ∙ at (dec_lt i (count_trailing_zeros k m))
+  pub without_lowest_other : (i : ℕ) → (i ≡ count_trailing_zeros k m → ⊥) → bit (bit_and m (m - 1)) i ≡ bit m i
+  without_lowest_other i apart = bit-and m (m - 1) i ∙ at (dec_lt i (count_trailing_zeros k m))
     where
       at : Dec (i < count_trailing_zeros k m) → min (bit m i) (bit (m - 1) i) ≡ bit m i
       at (yes l) = omega (arith, (lowered k m some small).below i l)
       at (no l) = omega (arith, (lowered k m some small).above i (omega arith))
 
-  pub without-lowest-lt : bit_and m (m - 1) < m
-  without-lowest-lt = omega (arith, some, and_le_r m (m - 1))
+  pub without_lowest_lt : bit_and m (m - 1) < m
+  without_lowest_lt = omega (arith, some, and_le_r m (m - 1))

@@ -1,9 +1,9 @@
 -- A tour of a plan in which every place has a road out is checked as before parking counted (02, note 7).
 --   breaks_by joined p stem cycle i == `breaks`, with any test of which place is joined to which
 --   road_break p stem cycle         == the first break then: by roads alone
---   break-as-before                == in such a plan it is the first break
+--   break_as_before                == in such a plan it is the first break
 --   RuledBefore                    == what was told of a tour then
---   ruled-as-before                == and so of such a plan now
+--   ruled_as_before                == and so of such a plan now
 use mathlib.Core.Path.{◌≡◌, ap, subst, sym, fun_ext}
 use mathlib.Core.Bool.{Bool, cond, not, ◌&&◌, ◌||◌}
 use mathlib.Core.List.{List}
@@ -16,7 +16,7 @@ use Rattle.plan.specs.Size.{too_large}
 use Rattle.plan.specs.Tour.{has_road}
 use Rattle.plan.specs.declared.Plan.{Plan}
 use Rattle.plan.specs.declared.Refusal.TheVariants.{ProductTooLarge}
-use Rattle.plan.proofs.Parking.{Left, joins-as-before}
+use Rattle.plan.proofs.Parking.{Left, joins_as_before}
 use Rattle.reader.specs.declared.Outcome.{Outcome}
 use Rattle.reader.specs.declared.Outcome.TheVariants as outcome
 use Rattle.checker.specs.Break.{drawn, unknown, misplaced, loopless, breaks, first_break}
@@ -41,16 +41,16 @@ abbrev pub RuledBefore : Outcome → Plan → List ℕ → List ℕ → Check �
 RuledBefore o p stem cycle c = Ruled (ruling_before o p stem cycle) stem cycle c
 
 module _ (p : Plan) (left : Left p) (stem cycle : List ℕ) where
-  pub break-as-before : first_break p stem cycle ≡ road_break p stem cycle
+  pub break_as_before : first_break p stem cycle ≡ road_break p stem cycle
   unfolding breaks
-  break-as-before =
+  break_as_before =
       ap (λ (joined : ℕ → ℕ → Bool). least_below (suc (length (drawn stem cycle))) (breaks_by joined p stem cycle))
-      (fun_ext λ u. fun_ext λ v. joins-as-before p left u v)
+      (fun_ext λ u. fun_ext λ v. joins_as_before p left u v)
 
   rulings : (o : Outcome) → ruling o p stem cycle ≡ ruling_before o p stem cycle
   unfolding ruling
   rulings (outcome.Refused x) = λ i. refuse x
-  rulings outcome.Plan = ap (λ b. cond (too_large p) (refuse ProductTooLarge) (by_break p b)) break-as-before
+  rulings outcome.Plan = ap (λ b. cond (too_large p) (refuse ProductTooLarge) (by_break p b)) break_as_before
 
-  pub ruled-as-before : (o : Outcome) (c : Check) → RuledOf o p stem cycle c ↔ RuledBefore o p stem cycle c
-  ruled-as-before o c = (subst (λ r. Ruled r stem cycle c) (rulings o), subst (λ r. Ruled r stem cycle c) (sym (rulings o)))
+  pub ruled_as_before : (o : Outcome) (c : Check) → RuledOf o p stem cycle c ↔ RuledBefore o p stem cycle c
+  ruled_as_before o c = (subst (λ r. Ruled r stem cycle c) (rulings o), subst (λ r. Ruled r stem cycle c) (sym (rulings o)))

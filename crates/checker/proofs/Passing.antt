@@ -1,7 +1,7 @@
 -- The five causes of a break (02, note 4) taken together: inside the drive a place does not pass, and at its end the loop does not close.
---   passes-first, passes-next               == the test of place 0, and of a later one
---   passes-known, passes-start, passes-road == what a place that passes is
---   closes-filled, closes-road              == a loop that closes has a place, and of such a loop the test is its closing road
+--   passes_first, passes_next               == the test of place 0, and of a later one
+--   passes_known, passes_start, passes_road == what a place that passes is
+--   closes_filled, closes_road              == a loop that closes has a place, and of such a loop the test is its closing road
 --   and-false                               == a conjunction with what is false
 --   judged                                  == a verdict tells the first break
 --   verdict                                 == the first break has a verdict
@@ -18,10 +18,10 @@ use Rattle.base.specs.Least.{Found, nowhere, at}
 use Rattle.plan.specs.Tour.{joins}
 use Rattle.plan.specs.declared.Plan.{Plan}
 use Rattle.base.proofs.Tests.{and_left, and_right}
-use Rattle.base.proofs.Least.{LeastAt, least-found, least-none, least_at, least-nowhere}
+use Rattle.base.proofs.Least.{LeastAt, least_found, least_none, least_at, least_nowhere}
 use Rattle.checker.specs.Break.{breaks, drawn, loopless, first_break}
 use Rattle.checker.specs.Passing.{passes, Passed, closing, closes, Verdict, stops, ends, whole}
-use Rattle.checker.proofs.Drawn.{drawn-length}
+use Rattle.checker.proofs.Drawn.{drawn_length}
 
 pub and-false : (a : Bool) → (a && false) ≡ false
 and-false true = refl
@@ -41,91 +41,91 @@ beyond n v = by (dec_lt v n)
     by (no h) = rw (le-leb n v (omega arith), le-ltb v n (omega arith))
 
 module _ (p : Plan) (s : List ℕ) where
-  pub passes-first : passes p s 0 ≡ ltb (get_or s 0 0) p.places && eqb (get_or s 0 0) p.start
+  pub passes_first : passes p s 0 ≡ ltb (get_or s 0 0) p.places && eqb (get_or s 0 0) p.start
   unfolding passes
-  passes-first = refl
+  passes_first = refl
 
-  pub passes-next : (k : ℕ) → 0 < k → passes p s k ≡ ltb (get_or s k 0) p.places && joins p (get_or s (k - 1) 0) (get_or s k 0)
+  pub passes_next : (k : ℕ) → 0 < k → passes p s k ≡ ltb (get_or s k 0) p.places && joins p (get_or s (k - 1) 0) (get_or s k 0)
   unfolding passes
-  passes-next k h = rw (passes, ne_eqb k 0 (λ e. omega arith))
+  passes_next k h = rw (passes, ne_eqb k 0 (λ e. omega arith))
 
-  pub passes-known : (k : ℕ) → passes p s k ≡ true → get_or s k 0 < p.places
+  pub passes_known : (k : ℕ) → passes p s k ≡ true → get_or s k 0 < p.places
   unfolding passes
-  passes-known k h = ltb-true (get_or s k 0) p.places (and_left _ _ h)
+  passes_known k h = ltb-true (get_or s k 0) p.places (and_left _ _ h)
 
-  pub passes-start : passes p s 0 ≡ true → get_or s 0 0 ≡ p.start
-  passes-start h = eqb-true (get_or s 0 0) p.start (and_right (ltb (get_or s 0 0) p.places) _ (sym passes-first ∙ h))
+  pub passes_start : passes p s 0 ≡ true → get_or s 0 0 ≡ p.start
+  passes_start h = eqb-true (get_or s 0 0) p.start (and_right (ltb (get_or s 0 0) p.places) _ (sym passes_first ∙ h))
 
-  pub passes-road : (k : ℕ) → 0 < k → passes p s k ≡ true → joins p (get_or s (k - 1) 0) (get_or s k 0) ≡ true
-  passes-road k l h = and_right (ltb (get_or s k 0) p.places) _ (sym (passes-next k l) ∙ h)
+  pub passes_road : (k : ℕ) → 0 < k → passes p s k ≡ true → joins p (get_or s (k - 1) 0) (get_or s k 0) ≡ true
+  passes_road k l h = and_right (ltb (get_or s k 0) p.places) _ (sym (passes_next k l) ∙ h)
 
   causes : (k : ℕ) → (leb p.places (get_or s k 0) || ((eqb k 0 && true) && not (eqb (get_or s 0 0) p.start)
       || ((ltb 0 k && true) && not (joins p (get_or s (k - 1) 0) (get_or s k 0)) || false))) ≡ not (passes p s k)
-  causes zero = rw (beyond p.places (get_or s 0 0), passes-first) (either (ltb (get_or s 0 0) p.places) (eqb (get_or s 0 0) p.start))
+  causes zero = rw (beyond p.places (get_or s 0 0), passes_first) (either (ltb (get_or s 0 0) p.places) (eqb (get_or s 0 0) p.start))
   causes (suc k) =
       let later : 0 < suc k = omega arith in
-      rw (ne_eqb (suc k) 0 (λ e. omega arith), lt-ltb 0 (suc k) later, beyond p.places (get_or s (suc k) 0), passes-next (suc k) later)
+      rw (ne_eqb (suc k) 0 (λ e. omega arith), lt-ltb 0 (suc k) later, beyond p.places (get_or s (suc k) 0), passes_next (suc k) later)
       (either (ltb (get_or s (suc k) 0) p.places) (joins p (get_or s (suc k - 1) 0) (get_or s (suc k) 0)))
 
 module _ (p : Plan) (cycle : List ℕ) where
-  pub closes-filled : closes p cycle ≡ true → 0 < length cycle
+  pub closes_filled : closes p cycle ≡ true → 0 < length cycle
   unfolding closes
-  closes-filled h = ltb-true 0 (length cycle) (and_left _ _ h)
+  closes_filled h = ltb-true 0 (length cycle) (and_left _ _ h)
 
-  pub closes-road : 0 < length cycle → closes p cycle ≡ closing p cycle
+  pub closes_road : 0 < length cycle → closes p cycle ≡ closing p cycle
   unfolding closes
-  closes-road h = rw (closes, lt-ltb 0 (length cycle) h)
+  closes_road h = rw (closes, lt-ltb 0 (length cycle) h)
 
 module _ (p : Plan) (stem cycle : List ℕ) where
-  with-loop : (k : ℕ) → k < length (drawn stem cycle) → loopless stem cycle k ≡ false
-  with-loop k h = by (ℕ_discrete k (length stem))
+  with_loop : (k : ℕ) → k < length (drawn stem cycle) → loopless stem cycle k ≡ false
+  with_loop k h = by (ℕ_discrete k (length stem))
     where
       by : Dec (k ≡ length stem) → loopless stem cycle k ≡ false
-      by (yes e) = rw (eq-eqb k (length stem) e, ne_eqb (length cycle) 0 (λ z. omega (arith, drawn-length stem cycle)))
+      by (yes e) = rw (eq-eqb k (length stem) e, ne_eqb (length cycle) 0 (λ z. omega (arith, drawn_length stem cycle)))
       by (no e) = rw (ne_eqb k (length stem) e)
 
-  breaks-inside : (k : ℕ) → k < length (drawn stem cycle) → breaks p stem cycle k ≡ not (passes p (drawn stem cycle) k)
+  breaks_inside : (k : ℕ) → k < length (drawn stem cycle) → breaks p stem cycle k ≡ not (passes p (drawn stem cycle) k)
   unfolding breaks
-  breaks-inside k h =
+  breaks_inside k h =
       let n = length (drawn stem cycle) in
-      rw (lt-ltb k n h, ne_eqb k n (λ e. omega arith), with-loop k h) (causes p (drawn stem cycle) k)
+      rw (lt-ltb k n h, ne_eqb k n (λ e. omega arith), with_loop k h) (causes p (drawn stem cycle) k)
 
-  breaks-end : breaks p stem cycle (length (drawn stem cycle)) ≡ not (closes p cycle)
+  breaks_end : breaks p stem cycle (length (drawn stem cycle)) ≡ not (closes p cycle)
   unfolding breaks closes
-  breaks-end =
+  breaks_end =
       let n = length (drawn stem cycle) in
       rw (le-ltb n n (omega arith), eq-eqb n n refl, and-false (eqb n 0), and-false (ltb 0 n), closes) (by (ℕ_discrete (length cycle) 0))
     where
       by : Dec (length cycle ≡ 0) → (ltb 0 (length cycle) && not (closing p cycle) || loopless stem cycle (length (drawn stem cycle)))
           ≡ not (ltb 0 (length cycle) && closing p cycle)
-      by (yes e) = rw (e, eq-eqb (length (drawn stem cycle)) (length stem) (omega (arith, drawn-length stem cycle)))
+      by (yes e) = rw (e, eq-eqb (length (drawn stem cycle)) (length stem) (omega (arith, drawn_length stem cycle)))
       by (no e) =
           rw (lt-ltb 0 (length cycle) (omega arith), ne_eqb (length cycle) 0 e, and-false (eqb (length (drawn stem cycle)) (length stem)))
           (either true (closing p cycle))
 
-  passed-unbroken : (n k : ℕ) → n < suc (length (drawn stem cycle)) → Passed p (drawn stem cycle) n → k < n → breaks p stem cycle k ≡ false
-  passed-unbroken n k h passed l = breaks-inside k (omega arith) ∙ ap not (passed.each k l)
+  passed_unbroken : (n k : ℕ) → n < suc (length (drawn stem cycle)) → Passed p (drawn stem cycle) n → k < n → breaks p stem cycle k ≡ false
+  passed_unbroken n k h passed l = breaks_inside k (omega arith) ∙ ap not (passed.each k l)
 
-  unbroken-passed : (n : ℕ) → n < suc (length (drawn stem cycle)) → ((k : ℕ) → k < n → breaks p stem cycle k ≡ false) → Passed p (drawn stem cycle) n
-  unbroken-passed n h none = record { each = λ k l. not-false _ (sym (breaks-inside k (omega arith)) ∙ none k l) }
+  unbroken_passed : (n : ℕ) → n < suc (length (drawn stem cycle)) → ((k : ℕ) → k < n → breaks p stem cycle k ≡ false) → Passed p (drawn stem cycle) n
+  unbroken_passed n h none = record { each = λ k l. not-false _ (sym (breaks_inside k (omega arith)) ∙ none k l) }
 
   pub judged : {f : Found} → Verdict p (drawn stem cycle) (closes p cycle) f → first_break p stem cycle ≡ f
   judged (stops i h before here e) =
       least_at (breaks p stem cycle) (suc (length (drawn stem cycle))) i
-      (record { below = omega arith; holds = breaks-inside i h ∙ ap not here; first = λ k l. passed-unbroken i k (omega arith) before l })
+      (record { below = omega arith; holds = breaks_inside i h ∙ ap not here; first = λ k l. passed_unbroken i k (omega arith) before l })
       ∙ sym e
   judged (ends before gap e) =
       let n = length (drawn stem cycle) in
       least_at (breaks p stem cycle) (suc n) n
-      (record { below = omega arith; holds = breaks-end ∙ ap not gap; first = λ k l. passed-unbroken n k (omega arith) before l })
+      (record { below = omega arith; holds = breaks_end ∙ ap not gap; first = λ k l. passed_unbroken n k (omega arith) before l })
       ∙ sym e
   judged (whole before closed e) =
       let n = length (drawn stem cycle) in
-      least-nowhere (breaks p stem cycle) (suc n) (λ k l. by k l (dec_lt k n)) ∙ sym e
+      least_nowhere (breaks p stem cycle) (suc n) (λ k l. by k l (dec_lt k n)) ∙ sym e
     where
       by : (k : ℕ) → k < suc (length (drawn stem cycle)) → Dec (k < length (drawn stem cycle)) → breaks p stem cycle k ≡ false
-      by k l (yes h) = passed-unbroken (length (drawn stem cycle)) k (omega arith) before h
-      by k l (no h) = let n : k ≡ length (drawn stem cycle) = omega arith in rw n (breaks-end ∙ ap not closed)
+      by k l (yes h) = passed_unbroken (length (drawn stem cycle)) k (omega arith) before h
+      by k l (no h) = let n : k ≡ length (drawn stem cycle) = omega arith in rw n (breaks_end ∙ ap not closed)
 
   pub verdict : Verdict p (drawn stem cycle) (closes p cycle) (first_break p stem cycle)
   verdict = by (first_break p stem cycle) refl
@@ -133,15 +133,15 @@ module _ (p : Plan) (stem cycle : List ℕ) where
       by : (f : Found) → first_break p stem cycle ≡ f → Verdict p (drawn stem cycle) (closes p cycle) f
       by nowhere e =
           let n = length (drawn stem cycle) in
-          let none = least-none (breaks p stem cycle) (suc n) e in
-          whole (unbroken-passed n (omega arith) (λ k l. none k (omega arith))) (not-false _ (sym breaks-end ∙ none n (omega arith))) refl
-      by (at i) e = found (least-found (breaks p stem cycle) (suc (length (drawn stem cycle))) i e) (dec_lt i (length (drawn stem cycle)))
+          let none = least_none (breaks p stem cycle) (suc n) e in
+          whole (unbroken_passed n (omega arith) (λ k l. none k (omega arith))) (not-false _ (sym breaks_end ∙ none n (omega arith))) refl
+      by (at i) e = found (least_found (breaks p stem cycle) (suc (length (drawn stem cycle))) i e) (dec_lt i (length (drawn stem cycle)))
         where
           found : LeastAt (suc (length (drawn stem cycle))) (breaks p stem cycle) i → Dec (i < length (drawn stem cycle))
               → Verdict p (drawn stem cycle) (closes p cycle) (at i)
-          found l (yes h) = stops i h (unbroken-passed i l.below l.first) (not-true _ (sym (breaks-inside i h) ∙ l.holds)) refl
+          found l (yes h) = stops i h (unbroken_passed i l.below l.first) (not-true _ (sym (breaks_inside i h) ∙ l.holds)) refl
           found l (no h) =
               let n : i ≡ length (drawn stem cycle) = omega arith in
-              ends (rw n at (unbroken-passed i l.below l.first))
-              (not-true _ (sym breaks-end ∙ ap (breaks p stem cycle) (sym n) ∙ l.holds))
+              ends (rw n at (unbroken_passed i l.below l.first))
+              (not-true _ (sym breaks_end ∙ ap (breaks p stem cycle) (sym n) ∙ l.holds))
               (ap at n)

@@ -1,14 +1,14 @@
 -- The answer by its ruling.
---   ruled-large   == the product is too large
---   ruled-broken  == the tour breaks
---   ruled-whole   == it does not: the answer is what the tour is worth
---   read-ruled, refused-ruled == of a plan file: it was read, or turned away
+--   ruled_large   == the product is too large
+--   ruled_broken  == the tour breaks
+--   ruled_whole   == it does not: the answer is what the tour is worth
+--   read_ruled, refused_ruled == of a plan file: it was read, or turned away
 use mathlib.Core.Path.{◌≡◌, refl, sym, ap, ◌∙◌, subst}
 use mathlib.Core.Bool.{Bool, true, false}
 use mathlib.Core.List.{List}
 use Prim.Native.Nat.{ℕ}
 use Rattle.base.specs.Least.{Found, nowhere, at}
-use Rattle.base.proofs.Tests.{false-not-true}
+use Rattle.base.proofs.Tests.{false_not_true}
 use Rattle.plan.specs.Size.{Sized}
 use Rattle.plan.specs.declared.Plan.{Plan}
 use Rattle.plan.specs.declared.Refusal.{Refusal}
@@ -34,33 +34,33 @@ is_at break.Nowhere = false
 is_at (break.At i) = true
 
 -- a break that is told is that of the definition
-pub told-broken : (f : Found) (i : ℕ) → break.At i ≡ break_of f → (k : ℕ) × (f ≡ at k) × (i ≡ held k)
+pub told_broken : (f : Found) (i : ℕ) → break.At i ≡ break_of f → (k : ℕ) × (f ≡ at k) × (i ≡ held k)
 unfolding is_at index_in
-told-broken nowhere i e = absurd (false-not-true refl (ap is_at e))
-told-broken (at k) i e = (k, refl, ap index_in e)
+told_broken nowhere i e = absurd (false_not_true refl (ap is_at e))
+told_broken (at k) i e = (k, refl, ap index_in e)
 
-pub told-whole : (f : Found) → break.Nowhere ≡ break_of f → f ≡ nowhere
+pub told_whole : (f : Found) → break.Nowhere ≡ break_of f → f ≡ nowhere
 unfolding is_at
-told-whole nowhere e = refl
-told-whole (at k) e = absurd (false-not-true refl (sym (ap is_at e)))
+told_whole nowhere e = refl
+told_whole (at k) e = absurd (false_not_true refl (sym (ap is_at e)))
 
 module _ (p : Plan) {large : Bool} {n : ℕ} (s : Sized p large n) (stem cycle : List ℕ) where
-  pub ruled-large : large ≡ true → RuledOf outcome.Plan p stem cycle (Refused ProductTooLarge)
+  pub ruled_large : large ≡ true → RuledOf outcome.Plan p stem cycle (Refused ProductTooLarge)
   unfolding Ruled ruling
-  ruled-large e = rw (sym s.judged ∙ e) refl
+  ruled_large e = rw (sym s.judged ∙ e) refl
 
-  pub ruled-broken : (i : ℕ) → large ≡ false → break.At i ≡ break_of (first_break p stem cycle) → RuledOf outcome.Plan p stem cycle (Refused (Broken i))
+  pub ruled_broken : (i : ℕ) → large ≡ false → break.At i ≡ break_of (first_break p stem cycle) → RuledOf outcome.Plan p stem cycle (Refused (Broken i))
   unfolding Ruled ruling
-  ruled-broken i e b = let k = told-broken (first_break p stem cycle) i b in rw (sym s.judged ∙ e, k.1) (ap (λ i. Refused (Broken i)) k.2)
+  ruled_broken i e b = let k = told_broken (first_break p stem cycle) i b in rw (sym s.judged ∙ e, k.1) (ap (λ i. Refused (Broken i)) k.2)
 
-  pub ruled-whole : (w : Worth) → large ≡ false → break.Nowhere ≡ break_of (first_break p stem cycle) → Worthy p stem cycle w → RuledOf outcome.Plan p stem cycle (Tour w)
+  pub ruled_whole : (w : Worth) → large ≡ false → break.Nowhere ≡ break_of (first_break p stem cycle) → Worthy p stem cycle w → RuledOf outcome.Plan p stem cycle (Tour w)
   unfolding Ruled ruling
-  ruled-whole w e b x = rw (sym s.judged ∙ e, told-whole (first_break p stem cycle) b) (record { worth = w; told = refl; worthy = x })
+  ruled_whole w e b x = rw (sym s.judged ∙ e, told_whole (first_break p stem cycle) b) (record { worth = w; told = refl; worthy = x })
 
 module _ (file : List ℕ) (r : Reading) (e : r ≡ read_plan file) (stem cycle : List ℕ) where
-  pub read-ruled : (c : Check) → r.outcome ≡ outcome.Plan → RuledOf outcome.Plan r.plan stem cycle c → CheckOf file stem cycle c
-  read-ruled c o x = subst (λ (r : Reading). RuledOf r.outcome r.plan stem cycle c) e (subst (λ o. RuledOf o r.plan stem cycle c) (sym o) x)
+  pub read_ruled : (c : Check) → r.outcome ≡ outcome.Plan → RuledOf outcome.Plan r.plan stem cycle c → CheckOf file stem cycle c
+  read_ruled c o x = subst (λ (r : Reading). RuledOf r.outcome r.plan stem cycle c) e (subst (λ o. RuledOf o r.plan stem cycle c) (sym o) x)
 
-  pub refused-ruled : (x : Refusal) → r.outcome ≡ outcome.Refused x → CheckOf file stem cycle (Refused x)
+  pub refused_ruled : (x : Refusal) → r.outcome ≡ outcome.Refused x → CheckOf file stem cycle (Refused x)
   unfolding Ruled ruling
-  refused-ruled x o = subst (λ (r : Reading). RuledOf r.outcome r.plan stem cycle (Refused x)) e (subst (λ o. RuledOf o r.plan stem cycle (Refused x)) (sym o) refl)
+  refused_ruled x o = subst (λ (r : Reading). RuledOf r.outcome r.plan stem cycle (Refused x)) e (subst (λ o. RuledOf o r.plan stem cycle (Refused x)) (sym o) refl)

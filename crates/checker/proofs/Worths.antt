@@ -1,7 +1,7 @@
 -- What a tour is worth, rule by rule.
---   usable-hard, usable-soft     == the rules of a plan are usable
---   whole-places                 == the places of a tour that does not break are places of the plan
---   bit_kept, bit-left           == a soft rule accepts, or not
+--   usable_hard, usable_soft     == the rules of a plan are usable
+--   whole_places                 == the places of a tour that does not break are places of the plan
+--   bit_kept, bit_left           == a soft rule accepts, or not
 --   keeping_start, -next, -end   == the kept byte, rule by rule
 --   hard-told                    == whether the hard rule accepts
 use mathlib.Core.Path.{◌≡◌, refl, sym, ap, ◌∙◌, subst}
@@ -17,8 +17,8 @@ use lib.ListN.{length, get_or, get_or-eq_default}
 use lib.Dec.{eqb}
 use Rattle.base.specs.Least.{nowhere}
 use Rattle.base.specs.Bits.{bit, has_bit}
-use Rattle.base.proofs.Tests.{false-not-true}
-use Rattle.base.proofs.Bits.{bit_high, bit-add-same, bit-add-other, bit-add-lt}
+use Rattle.base.proofs.Tests.{false_not_true}
+use Rattle.base.proofs.Bits.{bit_high, bit_add_same, bit_add_other, bit_add_lt}
 use Rattle.automata.specs.WellFormed as automaton
 use Rattle.automata.specs.WellFormed.{past_end}
 use Rattle.automata.specs.declared.Automaton.{Automaton}
@@ -27,24 +27,24 @@ use Rattle.plan.specs.WellFormed.{soft, WellFormed}
 use Rattle.plan.specs.Tour.{Soft}
 use Rattle.plan.specs.Cost.{keeps, KeptIs}
 use Rattle.plan.specs.declared.Plan.{Plan}
-use Rattle.plan.proofs.Rules.{rule-read}
+use Rattle.plan.proofs.Rules.{rule_read}
 use Rattle.checker.specs.Break.{first_break}
 use Rattle.checker.specs.Worth.{Known, KeptBit, kept, left, Keeping}
-use Rattle.checker.proofs.Breaks.{whole-known}
+use Rattle.checker.proofs.Breaks.{whole_known}
 
 usable : {most labels : ℕ} {a : Automaton} → most ≤ 16 → automaton.WellFormed most labels a → Usable a
 usable l w = record { few = omega (arith, l, w.few); first = w.first; accept = w.accept; moves = w.moves; from = w.from; to = w.to }
 
 module _ (p : Plan) (w : WellFormed p) where
-  pub usable-hard : Usable p.hard
-  usable-hard = usable (omega arith) w.hard
+  pub usable_hard : Usable p.hard
+  usable_hard = usable (omega arith) w.hard
 
-  pub usable-soft : (i : ℕ) → i < p.rules → Usable (get_or p.soft i past_end)
-  usable-soft i l = rw (rule-read p w i l) (usable (omega arith) (w.softs i l))
+  pub usable_soft : (i : ℕ) → i < p.rules → Usable (get_or p.soft i past_end)
+  usable_soft i l = rw (rule_read p w i l) (usable (omega arith) (w.softs i l))
 
   module _ (stem cycle : List ℕ) where
-    pub whole-places : first_break p stem cycle ≡ nowhere → Known p stem cycle
-    whole-places e = let k = whole-known p stem cycle e in record { in-stem = λ i. at stem k.0 i (dec_lt i (length stem)); in-cycle = λ i. at cycle k.1 i (dec_lt i (length cycle)) }
+    pub whole_places : first_break p stem cycle ≡ nowhere → Known p stem cycle
+    whole_places e = let k = whole_known p stem cycle e in record { in_stem = λ i. at stem k.0 i (dec_lt i (length stem)); in_cycle = λ i. at cycle k.1 i (dec_lt i (length cycle)) }
       where
         at : (s : List ℕ) → ((i : ℕ) → i < length s → get_or s i 0 < p.places) → (i : ℕ) → Dec (i < length s) → get_or s i 0 < p.places
         at s k i (yes l) = k i l
@@ -52,13 +52,13 @@ module _ (p : Plan) (w : WellFormed p) where
 
     module _ (i weight : ℕ) (l : i < p.rules) (b : Bool) (j : Judged (get_or p.soft i past_end) p.labels stem cycle b) where
       own : Judged (soft p i) p.labels stem cycle b
-      own = subst (λ (a : Automaton). Judged a p.labels stem cycle b) (rule-read p w i l) j
+      own = subst (λ (a : Automaton). Judged a p.labels stem cycle b) (rule_read p w i l) j
 
       pub bit_kept : b ≡ true → KeptBit p stem cycle i weight weight
       bit_kept e = kept refl (own.soft.holds e)
 
-      pub bit-left : b ≡ false → KeptBit p stem cycle i weight 0
-      bit-left e = left refl (own.soft.fails e)
+      pub bit_left : b ≡ false → KeptBit p stem cycle i weight 0
+      bit_left e = left refl (own.soft.fails e)
 
 module _ (p : Plan) (stem cycle : List ℕ) where
   pub keeping_start : Keeping p stem cycle 0 1 0
@@ -74,11 +74,11 @@ module _ (p : Plan) (stem cycle : List ℕ) where
     clear : bit k i ≡ 0
     clear = bit_high i k i x.small (omega arith)
 
-    pub keeping-next : (r : ℕ) → KeptBit p stem cycle i weight r → Keeping p stem cycle (i + 1) (weight * 2) (k + r)
-    keeping-next r (kept e s) = record {
+    pub keeping_next : (r : ℕ) → KeptBit p stem cycle i weight r → Keeping p stem cycle (i + 1) (weight * 2) (k + r)
+    keeping_next r (kept e s) = record {
       listed = omega arith;
       next = doubled;
-      small = rw sum (bit-add-lt (i + 1) i k (omega arith) (wider k x.small) clear);
+      small = rw sum (bit_add_lt (i + 1) i k (omega arith) (wider k x.small) clear);
       accepted = λ j h b. at j h b (ℕ_discrete j i);
       refused = λ j h b t. off j h b t (ℕ_discrete j i);
     }
@@ -87,16 +87,16 @@ module _ (p : Plan) (stem cycle : List ℕ) where
         sum = omega (arith, e, x.next)
 
         others : (j : ℕ) → (j ≡ i → ⊥) → keeps (k + r) j ≡ keeps k j
-        others j n = ap (λ m. has_bit m j) sum ∙ ap (λ b. eqb b 1) (bit-add-other i j k clear n)
+        others j n = ap (λ m. has_bit m j) sum ∙ ap (λ b. eqb b 1) (bit_add_other i j k clear n)
 
         at : (j : ℕ) → j < i + 1 → keeps (k + r) j ≡ true → Dec (j ≡ i) → Soft p stem cycle j
         at j h b (yes f) = rw f s
         at j h b (no f) = x.accepted j (omega arith) (sym (others j f) ∙ b)
 
         off : (j : ℕ) → j < i + 1 → keeps (k + r) j ≡ false → Soft p stem cycle j → Dec (j ≡ i) → ⊥
-        off j h b t (yes f) = false-not-true (ap (has_bit (k + r)) f ∙ ap (λ m. has_bit m i) sum ∙ eq-eqb _ _ (bit-add-same i k clear)) b
+        off j h b t (yes f) = false_not_true (ap (has_bit (k + r)) f ∙ ap (λ m. has_bit m i) sum ∙ eq-eqb _ _ (bit_add_same i k clear)) b
         off j h b t (no f) = x.refused j (omega arith) (sym (others j f) ∙ b) t
-    keeping-next r (left e n) = record {
+    keeping_next r (left e n) = record {
       listed = omega arith;
       next = doubled;
       small = rw same (wider k x.small);
@@ -108,25 +108,25 @@ module _ (p : Plan) (stem cycle : List ℕ) where
         same = omega (arith, e)
 
         at : (j : ℕ) → j < i + 1 → keeps (k + r) j ≡ true → Dec (j ≡ i) → Soft p stem cycle j
-        at j h b (yes f) = absurd (false-not-true b (ap (has_bit (k + r)) f ∙ ap (λ m. has_bit m i) same ∙ ap (λ b. eqb b 1) clear))
+        at j h b (yes f) = absurd (false_not_true b (ap (has_bit (k + r)) f ∙ ap (λ m. has_bit m i) same ∙ ap (λ b. eqb b 1) clear))
         at j h b (no f) = x.accepted j (omega arith) (sym (ap (λ m. has_bit m j) same) ∙ b)
 
         off : (j : ℕ) → j < i + 1 → keeps (k + r) j ≡ false → Soft p stem cycle j → Dec (j ≡ i) → ⊥
         off j h b t (yes f) = n (subst (λ j. Soft p stem cycle j) f t)
         off j h b t (no f) = x.refused j (omega arith) (sym (ap (λ m. has_bit m j) same) ∙ b) t
 
-  pub keeping-end : (i weight k : ℕ) → i ≡ p.rules → Keeping p stem cycle i weight k → KeptIs p stem cycle k
-  keeping-end i weight k e x = record {
+  pub keeping_end : (i weight k : ℕ) → i ≡ p.rules → Keeping p stem cycle i weight k → KeptIs p stem cycle k
+  keeping_end i weight k e x = record {
     small = rw (← e) x.small;
     accepted = λ j l. x.accepted j (omega (arith, e));
     refused = λ j l. x.refused j (omega (arith, e));
   }
 
   -- sums and weights stay small
-  pub keeping-low : (i weight k : ℕ) → i ≤ 8 → Keeping p stem cycle i weight k → (weight ≤ 256) × (k < 256)
-  keeping-low i weight k l x =
+  pub keeping_low : (i weight k : ℕ) → i ≤ 8 → Keeping p stem cycle i weight k → (weight ≤ 256) × (k < 256)
+  keeping_low i weight k l x =
       let e : 2 ^ i ≤ 2 ^ 8 = pow-le-pow_right (omega arith) {i = i} {j = 8} l in (omega (arith, x.next, e), omega (arith, x.small, e))
 
-  pub bit-low : {i weight r : ℕ} → KeptBit p stem cycle i weight r → r ≤ weight
-  bit-low (kept e s) = omega (arith, e)
-  bit-low (left e n) = omega (arith, e)
+  pub bit_low : {i weight r : ℕ} → KeptBit p stem cycle i weight r → r ≤ weight
+  bit_low (kept e s) = omega (arith, e)
+  bit_low (left e n) = omega (arith, e)

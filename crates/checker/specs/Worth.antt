@@ -9,8 +9,8 @@ use Rattle.plan.specs.Cost.{keeps}
 use Rattle.plan.specs.declared.Plan.{Plan}
 
 pub record Known (p : Plan) (stem cycle : List ℕ) : Type 0 where
-  pub in-stem : Below p.places stem
-  pub in-cycle : Below p.places cycle
+  pub in_stem : Below p.places stem
+  pub in_cycle : Below p.places cycle
 
 pub data KeptBit (p : Plan) (stem cycle : List ℕ) (i weight r : ℕ) : Type 0 where
   kept : r ≡ weight → Soft p stem cycle i → KeptBit p stem cycle i weight r

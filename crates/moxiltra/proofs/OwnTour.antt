@@ -1,6 +1,6 @@
 -- The planner's own tour, checked (02, note 4): it is accepted, at the planner's cost and with the planner's kept byte.
---   own-tour    == of every answer that is told of a plan file
---   own-checked == of the bytes that `plan_tour` leaves, put to `check_tour`
+--   own_tour    == of every answer that is told of a plan file
+--   own_checked == of the bytes that `plan_tour` leaves, put to `check_tour`
 use mathlib.Core.Path.{◌≡◌, refl, sym, ap, ◌∙◌, subst, subst₂}
 use mathlib.Core.Bool.{Bool, true, false}
 use mathlib.Core.List.{List, ◌++◌}
@@ -14,7 +14,7 @@ use Rattle.plan.specs.Cost.{KeptIs}
 use Rattle.plan.specs.WellFormed.{WellFormed}
 use Rattle.plan.specs.declared.Refusal.{Refusal}
 use Rattle.plan.specs.declared.Refusal.TheVariants as refusal
-use Rattle.plan.proofs.Numbers.{number-some}
+use Rattle.plan.proofs.Numbers.{number_some}
 use Rattle.plan.specs.declared.Plan.{Plan}
 use Rattle.reader.specs.Reading.{read_plan}
 use Rattle.reader.proofs.WellRead.{read_ok}
@@ -28,9 +28,9 @@ use Rattle.checker.specs.Check.{CheckOf, RuledOf}
 use Rattle.checker.specs.Block as check_block
 use Rattle.checker.specs.declared.Check.{Check}
 use Rattle.checker.specs.declared.Check.TheVariants.{Tour}
-use Rattle.checker.proofs.Answering.{own-worth}
+use Rattle.checker.proofs.Answering.{own_worth}
 use Rattle.moxiltra.specs.Entries.{Buffers, Promise, Checking}
-use Rattle.moxiltra.proofs.Blocks.{answered, block-exact, check-is}
+use Rattle.moxiltra.proofs.Blocks.{answered, block_exact, check_is}
 
 -- what an answer says that a tour is worth
 abbrev pub worth_in : Answer → Check
@@ -44,22 +44,22 @@ module _ (runin loop runin' loop' : List ℕ) (a : Answer) (zero_number : a.numb
   cycle = take a.cycle loop'
 
   refused : (x : Refusal) → a ≡ refusal_answer x → c ≡ worth_in a
-  refused x e = absurd (let z : ⊥ = omega (arith, number-some x, ap (λ (a : Answer). a.number) e, zero_number) in z)
+  refused x e = absurd (let z : ⊥ = omega (arith, number_some x, ap (λ (a : Answer). a.number) e, zero_number) in z)
 
   module _ (p : Plan) (ok : WellFormed p) (small : too_large p ≡ false) (checked : RuledOf outcome.Plan p stem cycle c) where
     toured : TourOf p runin loop runin' loop' a → c ≡ worth_in a
     toured t =
-        own-worth p stem cycle t.kept c ok small
-        (subst₂ (IsLasso p) (sym same-stem) (sym same-cycle) t.lasso)
-        (subst₂ (Hard p) (sym same-stem) (sym same-cycle) t.hard)
-        (subst₂ (λ s l. KeptIs p s l t.kept) (sym same-stem) (sym same-cycle) t.exact) checked
+        own_worth p stem cycle t.kept c ok small
+        (subst₂ (IsLasso p) (sym same_stem) (sym same_cycle) t.lasso)
+        (subst₂ (Hard p) (sym same_stem) (sym same_cycle) t.hard)
+        (subst₂ (λ s l. KeptIs p s l t.kept) (sym same_stem) (sym same_cycle) t.exact) checked
         ∙ ap worth_in (sym t.answer)
       where
-        same-stem : stem ≡ t.stem
-        same-stem = ap (λ (a : Answer). take a.stem runin') t.answer ∙ ap (take (length t.stem)) t.stem-text ∙ take-append_seam t.stem (drop (length t.stem) runin)
+        same_stem : stem ≡ t.stem
+        same_stem = ap (λ (a : Answer). take a.stem runin') t.answer ∙ ap (take (length t.stem)) t.stem_text ∙ take-append_seam t.stem (drop (length t.stem) runin)
 
-        same-cycle : cycle ≡ t.cycle
-        same-cycle = ap (λ (a : Answer). take a.cycle loop') t.answer ∙ ap (take (length t.cycle)) t.cycle-text ∙ take-append_seam t.cycle (drop (length t.cycle) loop)
+        same_cycle : cycle ≡ t.cycle
+        same_cycle = ap (λ (a : Answer). take a.cycle loop') t.answer ∙ ap (take (length t.cycle)) t.cycle_text ∙ take-append_seam t.cycle (drop (length t.cycle) loop)
 
     planned : Planned p runin loop runin' loop' a → c ≡ worth_in a
     planned (none n e f g) = refused refusal.NoTour e
@@ -74,10 +74,10 @@ module _ (runin loop runin' loop' : List ℕ) (a : Answer) (zero_number : a.numb
       by false e false f = refused refusal.BufferTooShort (rw (e, f) at t).answer
       by false e true f = planned p ok e checked (rw (e, f) at t)
 
-pub own-tour : (file runin loop runin' loop' : List ℕ) (a : Answer) → AnswerTo file runin loop runin' loop' a → a.number ≡ 0
+pub own_tour : (file runin loop runin' loop' : List ℕ) (a : Answer) → AnswerTo file runin loop runin' loop' a → a.number ≡ 0
     → (c : Check) → CheckOf file (take a.stem runin') (take a.cycle loop') c → c ≡ worth_in a
 unfolding verdict Told
-own-tour file runin loop runin' loop' a t z c k = by (read_plan file).outcome refl
+own_tour file runin loop runin' loop' a t z c k = by (read_plan file).outcome refl
   where
     by : (o : Outcome) → (read_plan file).outcome ≡ o → c ≡ worth_in a
     by outcome.Plan e =
@@ -88,16 +88,16 @@ own-tour file runin loop runin' loop' a t z c k = by (read_plan file).outcome re
         refused runin loop runin' loop' a z c x (subst (λ o. ToldOf o (read_plan file).plan runin loop runin' loop' a) e t).answer
 
 -- the places that the block of `plan_tour` tells, put to `check_tour` with a block that is long enough
-pub own-checked : (plan : List ℕ) (b b' : Buffers) → 16 ≤ length b.block → Promise plan b b' 0
+pub own_checked : (plan : List ℕ) (b b' : Buffers) → 16 ≤ length b.block → Promise plan b b' 0
     → (block block' : List ℕ) (r : ℕ) → 24 ≤ length block
     → Checking plan (take (answer_of (take 16 b'.block)).stem b'.runin) (take (answer_of (take 16 b'.block)).cycle b'.loop) block block' r
     → (r ≡ 0) × (block' ≡ check_block.block_of (worth_in (answer_of (take 16 b'.block))) ++ drop 24 block)
-own-checked plan b b' h P block block' r l k =
+own_checked plan b b' h P block block' r l k =
     let a = answered plan b b' 0 h P in
-    let e = block-exact plan b b' 0 h P in
-    let x = check-is plan _ _ block block' r l k in
+    let e = block_exact plan b b' 0 h P in
+    let x = check_is plan _ _ block block' r l k in
     let same : x.check ≡ worth_in (answer_of (take 16 b'.block)) =
-    own-tour plan b.runin b.loop b'.runin b'.loop (answer_of (take 16 b'.block))
+    own_tour plan b.runin b.loop b'.runin b'.loop (answer_of (take 16 b'.block))
     (subst (λ (y : Answer). AnswerTo plan b.runin b.loop b'.runin b'.loop y) (sym e) a.told)
     (ap (λ (y : Answer). y.number) e ∙ sym a.returned) x.check x.told in
     (x.returned ∙ ap checked.number same, x.filled ∙ ap (λ c. check_block.block_of c ++ drop 24 block) same)

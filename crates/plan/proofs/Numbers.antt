@@ -1,6 +1,6 @@
 -- Which numbers are those of an answer or of a refusal.
 --   never      == no answer of plantour's has a number above 10
---   number-low, number-some == no refusal has a number above 10, and none has 0
+--   number_low, number_some == no refusal has a number above 10, and none has 0
 use mathlib.Core.Path.{◌≡◌}
 use Prim.Native.Nat.{ℕ, ◌≤◌}
 use native.Mathlib.Omega.{arith}
@@ -17,26 +17,26 @@ unfolding kind_of
 never n h =
     rw (ne_eqb n 0 (λ e. omega arith), ne_eqb n 2 (λ e. omega arith), ne_eqb n 3 (λ e. omega arith), ne_eqb n 10 (λ e. omega arith), le-ltb n 7 (omega arith))
 
-pub number-low : (x : Refusal) → number x ≤ 10
-number-low PlanTooLong = omega arith
-number-low (Line (Form line)) = omega arith
-number-low (Line (Range line)) = omega arith
-number-low (Line (Doubled line)) = omega arith
-number-low ProductTooLarge = omega arith
-number-low BufferTooShort = omega arith
-number-low NoTour = omega arith
-number-low BlockTooShort = omega arith
-number-low Contradiction = omega arith
-number-low (Broken i) = omega arith
+pub number_low : (x : Refusal) → number x ≤ 10
+number_low PlanTooLong = omega arith
+number_low (Line (Form line)) = omega arith
+number_low (Line (Range line)) = omega arith
+number_low (Line (Doubled line)) = omega arith
+number_low ProductTooLarge = omega arith
+number_low BufferTooShort = omega arith
+number_low NoTour = omega arith
+number_low BlockTooShort = omega arith
+number_low Contradiction = omega arith
+number_low (Broken i) = omega arith
 
-pub number-some : (x : Refusal) → 1 ≤ number x
-number-some PlanTooLong = omega arith
-number-some (Line (Form line)) = omega arith
-number-some (Line (Range line)) = omega arith
-number-some (Line (Doubled line)) = omega arith
-number-some ProductTooLarge = omega arith
-number-some BufferTooShort = omega arith
-number-some NoTour = omega arith
-number-some BlockTooShort = omega arith
-number-some Contradiction = omega arith
-number-some (Broken i) = omega arith
+pub number_some : (x : Refusal) → 1 ≤ number x
+number_some PlanTooLong = omega arith
+number_some (Line (Form line)) = omega arith
+number_some (Line (Range line)) = omega arith
+number_some (Line (Doubled line)) = omega arith
+number_some ProductTooLarge = omega arith
+number_some BufferTooShort = omega arith
+number_some NoTour = omega arith
+number_some BlockTooShort = omega arith
+number_some Contradiction = omega arith
+number_some (Broken i) = omega arith

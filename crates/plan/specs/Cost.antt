@@ -38,7 +38,7 @@ abbrev pub Better : Plan → ℕ → ℕ → Type 0
 Better p k k' = (cost p k < cost p k') ⊎ ((cost p k ≡ cost p k') × First p.rules k k')
 
 -- k' is any set of rules that accept the tour. The tour's own kept byte is one of them, which gives demand 3 to the letter
--- (`best-kept`, of the proofs); stated for every such set, it is also what makes the kept byte exact.
+-- (`best_kept`, of the proofs); stated for every such set, it is also what makes the kept byte exact.
 abbrev pub Best : Plan → ℕ → Type 0
 Best p k =
     (stem cycle : List ℕ) → IsLasso p stem cycle → Hard p stem cycle → (k' : ℕ) → k' < 2 ^ p.rules

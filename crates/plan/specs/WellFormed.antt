@@ -43,8 +43,8 @@ pub record WellFormed (p : Plan) : Type 0 where
   pub hard : automaton.WellFormed 16 (2 ^ p.marks) p.hard
   pub softs : (i : ℕ) → i < p.rules → automaton.WellFormed 8 (2 ^ p.marks) (soft p i)
   pub heavy : (i : ℕ) → i < p.rules → weight p i ≤ 4000000
-  pub rest-labels : ZeroFrom p.places p.labels
+  pub rest_labels : ZeroFrom p.places p.labels
   pub rest_from : ZeroFrom p.roads p.from
-  pub rest-to : ZeroFrom p.roads p.to
-  pub rest-softs : (i : ℕ) → p.rules ≤ i → soft p i ≡ no_automaton
-  pub rest-weights : ZeroFrom p.rules p.weights
+  pub rest_to : ZeroFrom p.roads p.to
+  pub rest_softs : (i : ℕ) → p.rules ≤ i → soft p i ≡ no_automaton
+  pub rest_weights : ZeroFrom p.rules p.weights

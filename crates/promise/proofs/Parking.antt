@@ -1,6 +1,6 @@
 -- A plan in which every place has a road out is answered as before parking counted (02, note 7).
 --   TourBefore, PlannedBefore, ToldBefore == what was told of a plan then: `TourOf`, `Planned` and `ToldOf`, with tours by roads alone
---   told-as-before                        == of such a plan this is what is told
+--   told_as_before                        == of such a plan this is what is told
 use mathlib.Core.Path.{◌≡◌}
 use mathlib.Core.Bool.{Bool, true, false, cond}
 use mathlib.Core.List.{List, ◌++◌}
@@ -13,7 +13,7 @@ use Rattle.plan.specs.Tour.{Hard, Soft}
 use Rattle.plan.specs.Cost.{KeptIs, Counted}
 use Rattle.plan.specs.declared.Plan.{Plan}
 use Rattle.plan.specs.declared.Refusal.TheVariants as refusal
-use Rattle.plan.proofs.Parking.{Left, RoadTour, BestBefore, road-tours, tours-as-before, best-as-before}
+use Rattle.plan.proofs.Parking.{Left, RoadTour, BestBefore, road_tours, tours_as_before, best_as_before}
 use Rattle.reader.specs.declared.Outcome.{Outcome}
 use Rattle.reader.specs.declared.Outcome.TheVariants as outcome
 use Rattle.answer.specs.declared.Answer.{Answer}
@@ -28,11 +28,11 @@ pub record TourBefore (p : Plan) (runin loop runin' loop' : List ℕ) (a : Answe
   pub exact : KeptIs p stem cycle kept
   pub counted : Counted (Soft p stem cycle) p.rules (ones kept)
   pub best : BestBefore p kept
-  pub stem-short : length stem ≤ size p
-  pub cycle-short : length cycle ≤ loop_room p
+  pub stem_short : length stem ≤ size p
+  pub cycle_short : length cycle ≤ loop_room p
   pub answer : a ≡ tour_answer p kept (length stem) (length cycle)
-  pub stem-text : runin' ≡ stem ++ drop (length stem) runin
-  pub cycle-text : loop' ≡ cycle ++ drop (length cycle) loop
+  pub stem_text : runin' ≡ stem ++ drop (length stem) runin
+  pub cycle_text : loop' ≡ cycle ++ drop (length cycle) loop
 
 pub data PlannedBefore (p : Plan) (runin loop runin' loop' : List ℕ) (a : Answer) : Type 0 where
   without : ((stem cycle : List ℕ) → RoadTour p stem cycle → Hard p stem cycle → ⊥) → a ≡ refusal_answer refusal.NoTour → runin' ≡ runin → loop' ≡ loop
@@ -47,57 +47,57 @@ abbrev pub ToldBefore : Outcome → Plan → List ℕ → List ℕ → List ℕ 
 ToldBefore o p runin loop runin' loop' a = ByVerdict (verdict o p (length runin) (length loop)) runin loop runin' loop' a
 
 module _ (p : Plan) (left : Left p) (runin loop runin' loop' : List ℕ) (a : Answer) where
-  to-before : TourOf p runin loop runin' loop' a → TourBefore p runin loop runin' loop' a
-  to-before t = record {
+  to_before : TourOf p runin loop runin' loop' a → TourBefore p runin loop runin' loop' a
+  to_before t = record {
     stem = t.stem;
     cycle = t.cycle;
     kept = t.kept;
-    lasso = (tours-as-before p left t.stem t.cycle).0 t.lasso;
+    lasso = (tours_as_before p left t.stem t.cycle).0 t.lasso;
     hard = t.hard;
     exact = t.exact;
     counted = t.counted;
-    best = (best-as-before p left t.kept).0 t.best;
-    stem-short = t.stem-short;
-    cycle-short = t.cycle-short;
+    best = (best_as_before p left t.kept).0 t.best;
+    stem_short = t.stem_short;
+    cycle_short = t.cycle_short;
     answer = t.answer;
-    stem-text = t.stem-text;
-    cycle-text = t.cycle-text;
+    stem_text = t.stem_text;
+    cycle_text = t.cycle_text;
   }
 
-  from-before : TourBefore p runin loop runin' loop' a → TourOf p runin loop runin' loop' a
-  from-before t = record {
+  from_before : TourBefore p runin loop runin' loop' a → TourOf p runin loop runin' loop' a
+  from_before t = record {
     stem = t.stem;
     cycle = t.cycle;
     kept = t.kept;
-    lasso = road-tours p t.stem t.cycle t.lasso;
+    lasso = road_tours p t.stem t.cycle t.lasso;
     hard = t.hard;
     exact = t.exact;
     counted = t.counted;
-    best = (best-as-before p left t.kept).1 t.best;
-    stem-short = t.stem-short;
-    cycle-short = t.cycle-short;
+    best = (best_as_before p left t.kept).1 t.best;
+    stem_short = t.stem_short;
+    cycle_short = t.cycle_short;
     answer = t.answer;
-    stem-text = t.stem-text;
-    cycle-text = t.cycle-text;
+    stem_text = t.stem_text;
+    cycle_text = t.cycle_text;
   }
 
-  planned-to : Planned p runin loop runin' loop' a → PlannedBefore p runin loop runin' loop' a
-  planned-to (none n e r l) = without (λ stem cycle t. n stem cycle (road-tours p stem cycle t)) e r l
-  planned-to (tour t) = found (to-before t)
+  planned_to : Planned p runin loop runin' loop' a → PlannedBefore p runin loop runin' loop' a
+  planned_to (none n e r l) = without (λ stem cycle t. n stem cycle (road_tours p stem cycle t)) e r l
+  planned_to (tour t) = found (to_before t)
 
-  planned-from : PlannedBefore p runin loop runin' loop' a → Planned p runin loop runin' loop' a
-  planned-from (without n e r l) = none (λ stem cycle t. n stem cycle ((tours-as-before p left stem cycle).0 t)) e r l
-  planned-from (found t) = tour (from-before t)
+  planned_from : PlannedBefore p runin loop runin' loop' a → Planned p runin loop runin' loop' a
+  planned_from (without n e r l) = none (λ stem cycle t. n stem cycle ((tours_as_before p left stem cycle).0 t)) e r l
+  planned_from (found t) = tour (from_before t)
 
-  by-room : (large room : Bool)
+  by_room : (large room : Bool)
       → Told (cond large (refuse refusal.ProductTooLarge) (cond room (go p) (refuse refusal.BufferTooShort))) runin loop runin' loop' a
       ↔ ByVerdict (cond large (refuse refusal.ProductTooLarge) (cond room (go p) (refuse refusal.BufferTooShort))) runin loop runin' loop' a
   unfolding Told ByVerdict
-  by-room true room = (λ t. t, λ t. t)
-  by-room false true = (planned-to, planned-from)
-  by-room false false = (λ t. t, λ t. t)
+  by_room true room = (λ t. t, λ t. t)
+  by_room false true = (planned_to, planned_from)
+  by_room false false = (λ t. t, λ t. t)
 
-  pub told-as-before : (o : Outcome) → ToldOf o p runin loop runin' loop' a ↔ ToldBefore o p runin loop runin' loop' a
+  pub told_as_before : (o : Outcome) → ToldOf o p runin loop runin' loop' a ↔ ToldBefore o p runin loop runin' loop' a
   unfolding verdict Told ByVerdict
-  told-as-before (outcome.Refused x) = (λ t. t, λ t. t)
-  told-as-before outcome.Plan = by-room (too_large p) (roomy p (length runin) (length loop))
+  told_as_before (outcome.Refused x) = (λ t. t, λ t. t)
+  told_as_before outcome.Plan = by_room (too_large p) (roomy p (length runin) (length loop))

@@ -1,5 +1,5 @@
 -- Every told answer is one of those that there are.
---   told-sound == its numbers are in their ranges and agree, and the run-in and the loop that stand in the buffers have its lengths
+--   told_sound == its numbers are in their ranges and agree, and the run-in and the loop that stand in the buffers have its lengths
 use mathlib.Core.Path.{◌≡◌, refl, ap, ◌∙◌}
 use mathlib.Core.Bool.{Bool, true, false, cond}
 use mathlib.Core.List.{List}
@@ -21,16 +21,16 @@ use Rattle.plan.specs.Refusal as refused
 use Rattle.plan.specs.declared.Plan.{Plan}
 use Rattle.plan.specs.declared.Refusal.{Refusal}
 use Rattle.plan.specs.declared.Refusal.TheVariants as refusal
-use Rattle.plan.proofs.Tours.{stem-under, cycle-under}
+use Rattle.plan.proofs.Tours.{stem_under, cycle_under}
 use Rattle.reader.specs.Reading.{read_plan}
 use Rattle.reader.specs.declared.Outcome.{Outcome}
 use Rattle.reader.specs.declared.Outcome.TheVariants as outcome
-use Rattle.reader.proofs.Answers.{Turned, long, lined, read-turned}
-use Rattle.reader.proofs.WellRead.{read-well}
+use Rattle.reader.proofs.Answers.{Turned, long, lined, read_turned}
+use Rattle.reader.proofs.WellRead.{read_well}
 use Rattle.answer.specs.Sound.{Sound}
 use Rattle.answer.specs.declared.Answer.{Answer}
 use Rattle.promise.specs.Promise.{verdict, refuse, go, refusal_answer, TourOf, Planned, none, tour, Told, ToldOf, AnswerTo}
-use Rattle.plan.proofs.Charging.{cost-small}
+use Rattle.plan.proofs.Charging.{cost_small}
 
 -- the run-in and the loop that an answer says are those at the front of the buffers
 abbrev SoundIn : List ℕ → List ℕ → Answer → Type 0
@@ -40,64 +40,64 @@ SoundIn runin loop a = Sound a (take a.stem runin) (take a.cycle loop)
 abbrev Agrees : Refusal → Type 0
 Agrees x = consistent (kind_of (refused.number x)) (refused.line_of x) 0 0 0 0 ≡ true
 
-fault-agrees : (f : Fault) → 1 ≤ fault.line_of f → Agrees (refusal.Line f)
+fault_agrees : (f : Fault) → 1 ≤ fault.line_of f → Agrees (refusal.Line f)
 unfolding kind_of
-fault-agrees (Form n) h = rw (lt-ltb 0 n h)
-fault-agrees (Range n) h = rw (lt-ltb 0 n h)
-fault-agrees (Doubled n) h = rw (lt-ltb 0 n h)
+fault_agrees (Form n) h = rw (lt-ltb 0 n h)
+fault_agrees (Range n) h = rw (lt-ltb 0 n h)
+fault_agrees (Doubled n) h = rw (lt-ltb 0 n h)
 
 module _ (runin loop runin' loop' : List ℕ) (a : Answer) where
-  refusal-sound : (x : Refusal) → a ≡ refusal_answer x → refused.line_of x ≤ 60001 → Agrees x → SoundIn runin' loop' a
+  refusal_sound : (x : Refusal) → a ≡ refusal_answer x → refused.line_of x ≤ 60001 → Agrees x → SoundIn runin' loop' a
   unfolding under
-  refusal-sound x e early agrees = rw e (record {
-    stem-length = refl;
-    cycle-length = refl;
+  refusal_sound x e early agrees = rw e (record {
+    stem_length = refl;
+    cycle_length = refl;
     line = omega arith;
     cost = omega arith;
     kept = omega arith;
-    stem-places = refl;
-    cycle-places = refl;
+    stem_places = refl;
+    cycle_places = refl;
     agrees = agrees;
   })
 
-  turned-sound : (x : Refusal) → a ≡ refusal_answer x → Turned x → SoundIn runin' loop' a
+  turned_sound : (x : Refusal) → a ≡ refusal_answer x → Turned x → SoundIn runin' loop' a
   unfolding kind_of
-  turned-sound x e (long k) = refusal-sound refusal.PlanTooLong (e ∙ ap refusal_answer k) (omega arith) refl
-  turned-sound x e (lined f k low high) = refusal-sound (refusal.Line f) (e ∙ ap refusal_answer k) high (fault-agrees f low)
+  turned_sound x e (long k) = refusal_sound refusal.PlanTooLong (e ∙ ap refusal_answer k) (omega arith) refl
+  turned_sound x e (lined f k low high) = refusal_sound (refusal.Line f) (e ∙ ap refusal_answer k) high (fault_agrees f low)
 
   module _ (p : Plan) (ok : WellFormed p) where
-    tour-sound : TourOf p runin loop runin' loop' a → SoundIn runin' loop' a
+    tour_sound : TourOf p runin loop runin' loop' a → SoundIn runin' loop' a
     unfolding kind_of
-    tour-sound t = rw (t.answer, t.stem-text, t.cycle-text, take-append_seam t.stem, take-append_seam t.cycle) (record {
-      stem-length = refl;
-      cycle-length = refl;
+    tour_sound t = rw (t.answer, t.stem_text, t.cycle_text, take-append_seam t.stem, take-append_seam t.cycle) (record {
+      stem_length = refl;
+      cycle_length = refl;
       line = omega arith;
-      cost = omega (arith, cost-small p ok t.kept);
+      cost = omega (arith, cost_small p ok t.kept);
       kept = omega (arith, t.exact.small, pow_mono ok.rules);
-      stem-places = under_more p.places 128 ok.few t.stem (stem-under p ok t.stem t.cycle t.lasso);
-      cycle-places = under_more p.places 128 ok.few t.cycle (cycle-under p ok t.stem t.cycle t.lasso);
+      stem_places = under_more p.places 128 ok.few t.stem (stem_under p ok t.stem t.cycle t.lasso);
+      cycle_places = under_more p.places 128 ok.few t.cycle (cycle_under p ok t.stem t.cycle t.lasso);
       agrees = lt-ltb 0 (length t.cycle) t.lasso.filled;
     })
 
-    planned-sound : Planned p runin loop runin' loop' a → SoundIn runin' loop' a
+    planned_sound : Planned p runin loop runin' loop' a → SoundIn runin' loop' a
     unfolding kind_of
-    planned-sound (none n e r l) = refusal-sound refusal.NoTour e (omega arith) refl
-    planned-sound (tour t) = tour-sound t
+    planned_sound (none n e r l) = refusal_sound refusal.NoTour e (omega arith) refl
+    planned_sound (tour t) = tour_sound t
 
-  verdict-sound : (o : Outcome) (p : Plan) → ((x : Refusal) → o ≡ outcome.Refused x → Turned x) → (o ≡ outcome.Plan → WellFormed p)
+  verdict_sound : (o : Outcome) (p : Plan) → ((x : Refusal) → o ≡ outcome.Refused x → Turned x) → (o ≡ outcome.Plan → WellFormed p)
       → ToldOf o p runin loop runin' loop' a → SoundIn runin' loop' a
   unfolding verdict Told kind_of
-  verdict-sound (outcome.Refused x) p why ok t = turned-sound x t.answer (why x refl)
-  verdict-sound outcome.Plan p why ok t = by (too_large p) (roomy p (length runin) (length loop)) t
+  verdict_sound (outcome.Refused x) p why ok t = turned_sound x t.answer (why x refl)
+  verdict_sound outcome.Plan p why ok t = by (too_large p) (roomy p (length runin) (length loop)) t
     where
       by : (large room : Bool)
           → Told (cond large (refuse refusal.ProductTooLarge) (cond room (go p) (refuse refusal.BufferTooShort))) runin loop runin' loop' a
           → SoundIn runin' loop' a
-      by true room t = refusal-sound refusal.ProductTooLarge t.answer (omega arith) refl
-      by false true t = planned-sound p (ok refl) t
-      by false false t = refusal-sound refusal.BufferTooShort t.answer (omega arith) refl
+      by true room t = refusal_sound refusal.ProductTooLarge t.answer (omega arith) refl
+      by false true t = planned_sound p (ok refl) t
+      by false false t = refusal_sound refusal.BufferTooShort t.answer (omega arith) refl
 
-pub told-sound : (plan runin loop runin' loop' : List ℕ) (a : Answer) → AnswerTo plan runin loop runin' loop' a
+pub told_sound : (plan runin loop runin' loop' : List ℕ) (a : Answer) → AnswerTo plan runin loop runin' loop' a
     → Sound a (take a.stem runin') (take a.cycle loop')
-told-sound plan runin loop runin' loop' a =
-    verdict-sound runin loop runin' loop' a (read_plan plan).outcome (read_plan plan).plan (read-turned plan) (read-well plan)
+told_sound plan runin loop runin' loop' a =
+    verdict_sound runin loop runin' loop' a (read_plan plan).outcome (read_plan plan).plan (read_turned plan) (read_well plan)

@@ -1,9 +1,9 @@
 -- The verdict as the code comes to it.
 --   too-large                  == N is above 2,048
---   short-runin, short-loop    == it is not, and a buffer is too short
---   roomy-planned              == both have room: what planning comes to is what is told
---   refused-told, read_told    == a plan file that is turned away, and one that is read
---   told-fits                  == the lengths that are told lie within the buffers
+--   short_runin, short_loop    == it is not, and a buffer is too short
+--   roomy_planned              == both have room: what planning comes to is what is told
+--   refused_told, read_told    == a plan file that is turned away, and one that is read
+--   told_fits                  == the lengths that are told lie within the buffers
 use mathlib.Core.Path.{◌≡◌, refl, sym, ap, ◌∙◌, subst}
 use mathlib.Core.Bool.{Bool, true, false, ◌&&◌}
 use mathlib.Core.List.{List, ◌++◌}
@@ -16,7 +16,7 @@ use Rattle.plan.specs.Size.{size, Sized, loop_room, roomy}
 use Rattle.plan.specs.declared.Plan.{Plan}
 use Rattle.plan.specs.declared.Refusal.{Refusal}
 use Rattle.plan.specs.declared.Refusal.TheVariants as refusal
-use Rattle.plan.proofs.Products.{sized-nodes}
+use Rattle.plan.proofs.Products.{sized_nodes}
 use Rattle.reader.specs.Reading.{read_plan}
 use Rattle.reader.specs.declared.Reading.{Reading}
 use Rattle.reader.specs.declared.Outcome.TheVariants as outcome
@@ -30,27 +30,27 @@ and_no false = refl
 module _ (p : Plan) {large : Bool} {n : ℕ} (S : Sized p large n) (runin loop : List ℕ) (a : Answer) where
   pub too-large : large ≡ true → a ≡ refusal_answer refusal.ProductTooLarge → ToldOf outcome.Plan p runin loop runin loop a
   unfolding verdict Told
-  too-large h t = rw (sym S.judged ∙ h) (record { answer = t; same-runin = refl; same-loop = refl })
+  too-large h t = rw (sym S.judged ∙ h) (record { answer = t; same_runin = refl; same_loop = refl })
 
   module _ (h : large ≡ false) where
     short : roomy p (length runin) (length loop) ≡ false → a ≡ refusal_answer refusal.BufferTooShort → ToldOf outcome.Plan p runin loop runin loop a
     unfolding verdict Told
-    short e t = rw (sym S.judged ∙ h, e) (record { answer = t; same-runin = refl; same-loop = refl })
+    short e t = rw (sym S.judged ∙ h, e) (record { answer = t; same_runin = refl; same_loop = refl })
 
-    pub short-runin : length runin < n → a ≡ refusal_answer refusal.BufferTooShort → ToldOf outcome.Plan p runin loop runin loop a
-    short-runin k t = short (rw (lt-leb (size p) (length runin) (omega (arith, sized-nodes S h)))) t
+    pub short_runin : length runin < n → a ≡ refusal_answer refusal.BufferTooShort → ToldOf outcome.Plan p runin loop runin loop a
+    short_runin k t = short (rw (lt-leb (size p) (length runin) (omega (arith, sized_nodes S h)))) t
 
-    pub short-loop : length loop < (p.rules + 2) * n → a ≡ refusal_answer refusal.BufferTooShort → ToldOf outcome.Plan p runin loop runin loop a
-    short-loop k t =
-        let l : length loop < loop_room p = subst (λ x. length loop < (p.rules + 2) * x) (sized-nodes S h) k in
+    pub short_loop : length loop < (p.rules + 2) * n → a ≡ refusal_answer refusal.BufferTooShort → ToldOf outcome.Plan p runin loop runin loop a
+    short_loop k t =
+        let l : length loop < loop_room p = subst (λ x. length loop < (p.rules + 2) * x) (sized_nodes S h) k in
         short (rw (lt-leb (loop_room p) (length loop) l) (and_no (leb (size p) (length runin)))) t
 
-    pub roomy-planned : (runin' loop' : List ℕ) → n ≤ length runin → (p.rules + 2) * n ≤ length loop → Planned p runin loop runin' loop' a
+    pub roomy_planned : (runin' loop' : List ℕ) → n ≤ length runin → (p.rules + 2) * n ≤ length loop → Planned p runin loop runin' loop' a
         → ToldOf outcome.Plan p runin loop runin' loop' a
     unfolding verdict Told
-    roomy-planned runin' loop' r k P =
-        let l : loop_room p ≤ length loop = subst (λ x. (p.rules + 2) * x ≤ length loop) (sized-nodes S h) k in
-        let s : size p ≤ length runin = omega (arith, sized-nodes S h) in
+    roomy_planned runin' loop' r k P =
+        let l : loop_room p ≤ length loop = subst (λ x. (p.rules + 2) * x ≤ length loop) (sized_nodes S h) k in
+        let s : size p ≤ length runin = omega (arith, sized_nodes S h) in
         rw (sym S.judged ∙ h, le-leb (size p) (length runin) s, le-leb (loop_room p) (length loop) l) P
 
 -- what the reader answered is what the plan file reads as
@@ -60,20 +60,20 @@ module _ (plan : List ℕ) (r : Reading) (same : r ≡ read_plan plan) (runin lo
   read_told runin' loop' a e t =
       subst (λ x. ToldOf x.outcome x.plan runin loop runin' loop' a) same (subst (λ o. ToldOf o r.plan runin loop runin' loop' a) (sym e) t)
 
-  pub refused-told : (a : Answer) (x : Refusal) → r.outcome ≡ outcome.Refused x → a ≡ refusal_answer x → AnswerTo plan runin loop runin loop a
+  pub refused_told : (a : Answer) (x : Refusal) → r.outcome ≡ outcome.Refused x → a ≡ refusal_answer x → AnswerTo plan runin loop runin loop a
   unfolding verdict Told
-  refused-told a x e t =
+  refused_told a x e t =
       subst (λ y. ToldOf y.outcome y.plan runin loop runin loop a) same
-      (subst (λ o. ToldOf o r.plan runin loop runin loop a) (sym e) (record { answer = t; same-runin = refl; same-loop = refl }))
+      (subst (λ o. ToldOf o r.plan runin loop runin loop a) (sym e) (record { answer = t; same_runin = refl; same_loop = refl }))
 
 -- the lengths of an answer lie within the buffers
-pub told-fits : (v : Verdict) (runin loop runin' loop' : List ℕ) (a : Answer) → Told v runin loop runin' loop' a
+pub told_fits : (v : Verdict) (runin loop runin' loop' : List ℕ) (a : Answer) → Told v runin loop runin' loop' a
     → (a.stem ≤ length runin') × (a.cycle ≤ length loop')
 unfolding Told
-told-fits (refuse x) runin loop runin' loop' a t = (rw t.answer (omega arith), rw t.answer (omega arith))
-told-fits (go p) runin loop runin' loop' a (none n e r l) = (rw e (omega arith), rw e (omega arith))
-told-fits (go p) runin loop runin' loop' a (tour t) =
-    (rw t.answer (within t.stem runin runin' t.stem-text), rw t.answer (within t.cycle loop loop' t.cycle-text))
+told_fits (refuse x) runin loop runin' loop' a t = (rw t.answer (omega arith), rw t.answer (omega arith))
+told_fits (go p) runin loop runin' loop' a (none n e r l) = (rw e (omega arith), rw e (omega arith))
+told_fits (go p) runin loop runin' loop' a (tour t) =
+    (rw t.answer (within t.stem runin runin' t.stem_text), rw t.answer (within t.cycle loop loop' t.cycle_text))
   where
     within : (xs before after : List ℕ) → after ≡ xs ++ drop (length xs) before → length xs ≤ length after
     within xs before after e = omega (arith, ap length e ∙ length-append xs (drop (length xs) before))

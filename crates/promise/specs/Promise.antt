@@ -54,11 +54,11 @@ pub record TourOf (p : Plan) (runin loop runin' loop' : List ℕ) (a : Answer) :
   pub exact : KeptIs p stem cycle kept
   pub counted : Counted (Soft p stem cycle) p.rules (ones kept)
   pub best : Best p kept
-  pub stem-short : length stem ≤ size p
-  pub cycle-short : length cycle ≤ loop_room p
+  pub stem_short : length stem ≤ size p
+  pub cycle_short : length cycle ≤ loop_room p
   pub answer : a ≡ tour_answer p kept (length stem) (length cycle)
-  pub stem-text : runin' ≡ stem ++ drop (length stem) runin
-  pub cycle-text : loop' ≡ cycle ++ drop (length cycle) loop
+  pub stem_text : runin' ≡ stem ++ drop (length stem) runin
+  pub cycle_text : loop' ≡ cycle ++ drop (length cycle) loop
 
 pub data Planned (p : Plan) (runin loop runin' loop' : List ℕ) (a : Answer) : Type 0 where
   none : NoTour p → a ≡ refusal_answer refusal.NoTour → runin' ≡ runin → loop' ≡ loop → Planned p runin loop runin' loop' a
@@ -66,8 +66,8 @@ pub data Planned (p : Plan) (runin loop runin' loop' : List ℕ) (a : Answer) : 
 
 pub record Refused (x : Refusal) (runin loop runin' loop' : List ℕ) (a : Answer) : Type 0 where
   pub answer : a ≡ refusal_answer x
-  pub same-runin : runin' ≡ runin
-  pub same-loop : loop' ≡ loop
+  pub same_runin : runin' ≡ runin
+  pub same_loop : loop' ≡ loop
 
 unfoldable pub Told : Verdict → List ℕ → List ℕ → List ℕ → List ℕ → Answer → Type 0
 Told (refuse x) runin loop runin' loop' a = Refused x runin loop runin' loop' a

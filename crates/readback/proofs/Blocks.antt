@@ -1,10 +1,10 @@
 -- The block of a reply: its length, how it is written, and that its bytes say the reply.
---   length-block == it has thirty-two bytes
+--   length_block == it has thirty-two bytes
 --   head_done    == seven fields written one after the other are its first half
---   block-done   == with both lengths behind them they are the block
+--   block_done   == with both lengths behind them they are the block
 --   Narrow q     == each number of q has room in its bytes
---   block-says   == then the bytes of the block say the reply
---   reply-narrow == so it is of every text, with buffers of lengths that 64 bits can hold
+--   block_says   == then the bytes of the block say the reply
+--   reply_narrow == so it is of every text, with buffers of lengths that 64 bits can hold
 use mathlib.Core.Path.{◌≡◌, refl}
 use mathlib.Core.Bool.{Bool, true, false}
 use mathlib.Core.List.{List, ◌++◌}
@@ -14,22 +14,22 @@ use lib.Dec.{ltb}
 use lib.ListN.{length, drop}
 use borrow.Author.Tests.{ltb-true, ltb-false}
 use Rattle.text.specs.Over.{Wrote}
-use Rattle.text.proofs.Overs.{left-start, left-next, left-last, wrote-front, wrote-three}
+use Rattle.text.proofs.Overs.{left_start, left_next, left_last, wrote_front, wrote_three}
 use Rattle.answer.specs.Block.{little}
-use Rattle.answer.proofs.Blocks.{number-little}
+use Rattle.answer.proofs.Blocks.{number_little}
 use Rattle.plan.specs.Answers.{kind_of, consistent}
-use Rattle.plan.proofs.Numbers.{never, number-low}
+use Rattle.plan.proofs.Numbers.{never, number_low}
 use Rattle.readback.specs.Reading.{read_answer}
 use Rattle.readback.specs.Reply.{number, line_of, record_of}
 use Rattle.readback.specs.Block.{head_of, block_of, said, said_by}
 use Rattle.readback.specs.declared.Record.{Record}
 use Rattle.readback.specs.declared.Reply.{Reply}
 use Rattle.readback.specs.declared.Reply.TheVariants.{Read, Refused}
-use Rattle.readback.proofs.PrintsBack.{read-sound, read_fits, reply-line-low}
+use Rattle.readback.proofs.PrintsBack.{read_sound, read_fits, reply_line_low}
 
-pub length-block : (q : Reply) → length (block_of q) ≡ 32
+pub length_block : (q : Reply) → length (block_of q) ≡ 32
 unfolding little head_of block_of
-length-block q = refl
+length_block q = refl
 
 pub head_done : {b b₁ b₂ b₃ b₄ b₅ b₆ b₇ : List ℕ} (n line : ℕ) (x : Record) → 16 ≤ length b
     → Wrote b 0 (little 1 n) b₁ 1
@@ -42,79 +42,79 @@ pub head_done : {b b₁ b₂ b₃ b₄ b₅ b₆ b₇ : List ℕ} (n line : ℕ)
     → Wrote b 0 (head_of n line x) b₇ 16
 unfolding little head_of
 head_done {b} n line x room d₁ d₂ d₃ d₄ d₅ d₆ d₇ =
-    let l₁ = left-next (little 1 n) _ (left-start b 0 (head_of n line x) (omega arith)) d₁ in
-    let l₂ = left-next (little 1 x.kept) _ l₁ d₂ in
-    let l₃ = left-next (little 1 x.number) _ l₂ d₃ in
-    let l₄ = left-next (little 1 0) _ l₃ d₄ in
-    let l₅ = left-next (little 4 line) _ l₄ d₅ in
-    let l₆ = left-next (little 4 x.cost) _ l₅ d₆ in
-    left-last l₆ d₇
+    let l₁ = left_next (little 1 n) _ (left_start b 0 (head_of n line x) (omega arith)) d₁ in
+    let l₂ = left_next (little 1 x.kept) _ l₁ d₂ in
+    let l₃ = left_next (little 1 x.number) _ l₂ d₃ in
+    let l₄ = left_next (little 1 0) _ l₃ d₄ in
+    let l₅ = left_next (little 4 line) _ l₄ d₅ in
+    let l₆ = left_next (little 4 x.cost) _ l₅ d₆ in
+    left_last l₆ d₇
 
-pub block-done : (q : Reply) {b b₁ b₂ b₃ : List ℕ} (n line : ℕ) (x : Record) → 32 ≤ length b → n ≡ number q → line ≡ line_of q → x ≡ record_of q
+pub block_done : (q : Reply) {b b₁ b₂ b₃ : List ℕ} (n line : ℕ) (x : Record) → 32 ≤ length b → n ≡ number q → line ≡ line_of q → x ≡ record_of q
     → Wrote b 0 (head_of n line x) b₁ 16
     → Wrote b₁ 16 (little 8 x.stem) b₂ 24
     → Wrote b₂ 24 (little 8 x.cycle) b₃ 32
     → b₃ ≡ block_of q ++ drop 32 b
 unfolding little head_of block_of
-block-done q {b} n line x room e f g d₁ d₂ d₃ =
-    rw (← e, ← f, ← g) (wrote-front (wrote-three (head_of n line x) (little 8 x.stem) (little 8 x.cycle) (omega arith) d₁ d₂ d₃)).1
+block_done q {b} n line x room e f g d₁ d₂ d₃ =
+    rw (← e, ← f, ← g) (wrote_front (wrote_three (head_of n line x) (little 8 x.stem) (little 8 x.cycle) (omega arith) d₁ d₂ d₃)).1
 
 pub record Narrow (q : Reply) : Type 0 where
   pub number : number q < 256
   pub line : line_of q < 4294967296
   pub answer : (record_of q).number < 256
-  pub plan-line : (record_of q).line < 4294967296
+  pub plan_line : (record_of q).line < 4294967296
   pub cost : (record_of q).cost < 4294967296
   pub kept : (record_of q).kept < 256
   pub stem : (record_of q).stem < 18446744073709551616
   pub cycle : (record_of q).cycle < 18446744073709551616
 
-pub block-says : (q : Reply) → Narrow q → said_by (block_of q) ≡ said q
+pub block_says : (q : Reply) → Narrow q → said_by (block_of q) ≡ said q
 unfolding little head_of block_of said_by
-block-says q h =
+block_says q h =
     rw (
-      number-little 1 (number q) h.number,
-      number-little 1 (record_of q).kept h.kept,
-      number-little 1 (record_of q).number h.answer,
-      number-little 4 (line_of q) h.line,
-      number-little 4 (record_of q).cost h.cost,
-      number-little 4 (record_of q).line h.plan-line,
-      number-little 8 (record_of q).stem h.stem,
-      number-little 8 (record_of q).cycle h.cycle,
+      number_little 1 (number q) h.number,
+      number_little 1 (record_of q).kept h.kept,
+      number_little 1 (record_of q).number h.answer,
+      number_little 4 (line_of q) h.line,
+      number_little 4 (record_of q).cost h.cost,
+      number_little 4 (record_of q).line h.plan_line,
+      number_little 8 (record_of q).stem h.stem,
+      number_little 8 (record_of q).cycle h.cycle,
     )
 
-agreed-low : (n line cost kept stem cycle : ℕ) → consistent (kind_of n) line cost kept stem cycle ≡ true → n < 11
-agreed-low n line cost kept stem cycle e = by (ltb n 11) refl
+agreed_low : (n line cost kept stem cycle : ℕ) → consistent (kind_of n) line cost kept stem cycle ≡ true → n < 11
+agreed_low n line cost kept stem cycle e = by (ltb n 11) refl
   where
     by : (t : Bool) → ltb n 11 ≡ t → n < 11
     by true h = ltb-true n 11 h
     by false h = let z : false ≡ true = rw (never n (ltb-false n 11 h)) at e in let w : ◌≡◌ {A = ℕ} 0 1 = cc in absurd (omega arith)
 
 module _ (s : List ℕ) (r l : ℕ) (few : r < 18446744073709551616) (short : l < 18446744073709551616) where
-  pub reply-narrow : Narrow (read_answer s r l)
-  reply-narrow = by (read_answer s r l) refl
+  pub reply_narrow : Narrow (read_answer s r l)
+  reply_narrow = by (read_answer s r l) refl
     where
       by : (q : Reply) → read_answer s r l ≡ q → Narrow (read_answer s r l)
       by (Read x) e =
-          let sound = read-sound s r l x e in
+          let sound = read_sound s r l x e in
           let room = read_fits s r l x e in
           rw e (record {
             number = omega arith;
             line = omega arith;
-            answer = omega (arith, agreed-low x.number _ _ _ _ _ sound.agrees);
-            plan-line = omega (arith, sound.line);
+            answer = omega (arith, agreed_low x.number _ _ _ _ _ sound.agrees);
+            plan_line = omega (arith, sound.line);
             cost = omega (arith, sound.cost);
             kept = omega (arith, sound.kept);
             stem = omega (arith, room.0);
             cycle = omega (arith, room.1);
           })
       by (Refused x) e =
-          let low = rw e at (reply-line-low s r l) in
+          let low = rw e at (reply_line_low s r l) in
           rw e (record {
-            number = omega (arith, number-low x);
+            number = omega (arith, number_low x);
             line = omega (arith, low);
             answer = omega arith;
-            plan-line = omega arith;
+            plan_line = omega arith;
             cost = omega arith;
             kept = omega arith;
             stem = omega arith;

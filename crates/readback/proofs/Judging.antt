@@ -1,12 +1,12 @@
 -- What the lines of an answer's text come to, and the reply to them.
---   known-held               == whether a number is that of an answer is told by its held value
---   answer-fault, answer-bad, answer-good
+--   known_held               == whether a number is that of an answer is told by its held value
+--   answer_fault, answer_bad, answer_good
 --                            == the line `answer=n`: by the line before it, and by its number
---   draft-made               == the draft, from what each line is
---   judge-by                 == the reply to a record, by the tests of room and agreement
---   reply-fault, reply-good  == the reply to lines with a fault, and without
+--   draft_made               == the draft, from what each line is
+--   judge_by                 == the reply to a record, by the tests of room and agreement
+--   reply_fault, reply_good  == the reply to lines with a fault, and without
 --   replied                  == the reply, from the draft
---   stem-stands, cycle-stands, runin-written, loop-written == what it says of the lists, and of the buffers, where a record was read
+--   stem_stands, cycle_stands, runin_written, loop_written == what it says of the lists, and of the buffers, where a record was read
 --   none_written             == on a refusal no byte changes
 use mathlib.Core.Path.{◌≡◌, refl, sym, ◌∙◌}
 use mathlib.Core.Bool.{Bool, true, false, cond}
@@ -38,35 +38,35 @@ use Rattle.readback.specs.declared.Record.{Record}
 use Rattle.readback.specs.declared.Draft.{Draft}
 use Rattle.readback.specs.declared.Reply.{Reply}
 use Rattle.readback.specs.declared.Reply.TheVariants.{Read, Refused}
-use Rattle.readback.proofs.PrintsBack.{Listed, read-stands}
+use Rattle.readback.proofs.PrintsBack.{Listed, read_stands}
 
-known-held : (s : List ℕ) (at next v x : ℕ) → x ≡ min v 4000000000
+known_held : (s : List ℕ) (at next v x : ℕ) → x ≡ min v 4000000000
     → judged s at next (known x) (pair x 0) ≡ judged s at next (known v) (pair v 0)
-known-held s at next v x e = by (ltb v 11) refl
+known_held s at next v x e = by (ltb v 11) refl
   where
     by : (t : Bool) → ltb v 11 ≡ t → judged s at next (known x) (pair x 0) ≡ judged s at next (known v) (pair v 0)
     by true h = let l = ltb-true v 11 h in let same : x ≡ v = omega arith in rw same
     by false h = let l = ltb-false v 11 h in rw (never x (omega arith), never v l)
 
 module _ (s : List ℕ) (l : Line) where
-  pub answer-fault : (f : Fault) → l ≡ line.Fault f → l ≡ answer_line s l
+  pub answer_fault : (f : Fault) → l ≡ line.Fault f → l ≡ answer_line s l
   unfolding answer_line
-  answer-fault f p = rw p
+  answer_fault f p = rw p
 
   module _ (xs : Numbers) (c : Cursor) (p : l ≡ line.Numbers xs c) where
     abbrev number : Number
     number = next_number s (key_at s c.at answer_key) 10
 
-    pub answer-bad : number ≡ Bad → bad_form s c.at ≡ answer_line s l
+    pub answer_bad : number ≡ Bad → bad_form s c.at ≡ answer_line s l
     unfolding answer_line
-    answer-bad e = rw (p, e)
+    answer_bad e = rw (p, e)
 
-    pub answer-good : (x n : ℕ) → Told number x n → judged s c.at n (known x) (pair x 0) ≡ answer_line s l
+    pub answer_good : (x n : ℕ) → Told number x n → judged s c.at n (known x) (pair x 0) ≡ answer_line s l
     unfolding answer_line
-    answer-good x n t = known-held s c.at n (value_of number) x t.held ∙ rw (p, t.is)
+    answer_good x n t = known_held s c.at n (value_of number) x t.held ∙ rw (p, t.is)
 
 module _ (s : List ℕ) where
-  pub draft-made : (before number line cost kept : Line) (stem cycle : ListLine) (last : Line) (a b c d : ℕ)
+  pub draft_made : (before number line cost kept : Line) (stem cycle : ListLine) (last : Line) (a b c d : ℕ)
       → before ≡ top → number ≡ answer_line s before → line ≡ line_of_one s number line_key 0 65536
       → cost ≡ line_of_one s line cost_key 0 32000001 → kept ≡ line_of_one s cost kept_key 0 256
       → stem ≡ list_line s kept runin_key 128 → cycle ≡ list_line s stem.line loop_key 128
@@ -78,19 +78,19 @@ module _ (s : List ℕ) where
         cycle = cycle.list;
       }) (draft_of s)
   unfolding draft_of
-  draft-made before number line cost kept stem cycle last a b c d e0 e1 e2 e3 e4 e5 e6 f1 f2 f3 f4 e7 =
+  draft_made before number line cost kept stem cycle last a b c d e0 e1 e2 e3 e4 e5 e6 f1 f2 f3 f4 e7 =
       rw (e7, f4, f3, f2, f1, e6, e5, e4, e3, e2, e1, e0)
 
-pub judge-by : (x : Record) (r l : ℕ) (room agree : Bool) → room ≡ roomy x r l → agree ≡ agrees x → (q : Reply)
+pub judge_by : (x : Record) (r l : ℕ) (room agree : Bool) → room ≡ roomy x r l → agree ≡ agrees x → (q : Reply)
     → q ≡ cond room (cond agree (Read x) (Refused refusal.Contradiction)) (Refused refusal.BufferTooShort) → q ≡ judge x r l
 unfolding judge
-judge-by x r l room agree e f q g = g ∙ rw (e, f)
+judge_by x r l room agree e f q g = g ∙ rw (e, f)
 
-pub reply-fault : (l : Line) (f : Fault) (x : Record) (r n : ℕ) → l ≡ line.Fault f → Refused (refusal.Line f) ≡ reply_of l x r n
-reply-fault l f x r n e = rw e
+pub reply_fault : (l : Line) (f : Fault) (x : Record) (r n : ℕ) → l ≡ line.Fault f → Refused (refusal.Line f) ≡ reply_of l x r n
+reply_fault l f x r n e = rw e
 
-pub reply-good : (l : Line) (xs : Numbers) (c : Cursor) (x : Record) (r n : ℕ) → l ≡ line.Numbers xs c → judge x r n ≡ reply_of l x r n
-reply-good l xs c x r n e = rw e
+pub reply_good : (l : Line) (xs : Numbers) (c : Cursor) (x : Record) (r n : ℕ) → l ≡ line.Numbers xs c → judge x r n ≡ reply_of l x r n
+reply_good l xs c x r n e = rw e
 
 module _ (s : List ℕ) (r l : ℕ) where
   module _ (d : Draft) (same : d ≡ draft_of s) (q : Reply) (k : q ≡ reply_of d.line d.says r l) where
@@ -100,19 +100,19 @@ module _ (s : List ℕ) (r l : ℕ) where
 
     module _ (x : Record) (e : q ≡ Read x) where
       held : Listed s r l
-      held = read-stands s r l x (sym replied ∙ e)
+      held = read_stands s r l x (sym replied ∙ e)
 
-      pub stem-stands : Stands s d.stem × (d.stem.count ≤ r)
-      stem-stands = rw same (held.stem, held.stem-room)
+      pub stem_stands : Stands s d.stem × (d.stem.count ≤ r)
+      stem_stands = rw same (held.stem, held.stem_room)
 
-      pub cycle-stands : Stands s d.cycle × (d.cycle.count ≤ l)
-      cycle-stands = rw same (held.cycle, held.cycle-room)
+      pub cycle_stands : Stands s d.cycle × (d.cycle.count ≤ l)
+      cycle_stands = rw same (held.cycle, held.cycle_room)
 
-      pub runin-written : (before after : List ℕ) → after ≡ places_of s d.stem ++ drop d.stem.count before → after ≡ written q (runin_of s) before
-      runin-written before after w = w ∙ rw (e, same, held.stem.whole)
+      pub runin_written : (before after : List ℕ) → after ≡ places_of s d.stem ++ drop d.stem.count before → after ≡ written q (runin_of s) before
+      runin_written before after w = w ∙ rw (e, same, held.stem.whole)
 
-      pub loop-written : (before after : List ℕ) → after ≡ places_of s d.cycle ++ drop d.cycle.count before → after ≡ written q (loop_of s) before
-      loop-written before after w = w ∙ rw (e, same, held.cycle.whole)
+      pub loop_written : (before after : List ℕ) → after ≡ places_of s d.cycle ++ drop d.cycle.count before → after ≡ written q (loop_of s) before
+      loop_written before after w = w ∙ rw (e, same, held.cycle.whole)
 
 pub none_written : (q : Reply) (f : Refusal) → q ≡ Refused f → (places before : List ℕ) → before ≡ written q places before
 none_written q f e places before = rw e

@@ -1,10 +1,10 @@
 -- What the parts of a plan file come to: the draft of its lines, and the answer, case by case.
---   draft-made                  == the draft
+--   draft_made                  == the draft
 --   too_long, faulty, faultless == the answer
---   Turned x, read-turned       == why a plan file is turned away: it is too long, or a line of it has a fault, no later one than may follow
+--   Turned x, read_turned       == why a plan file is turned away: it is too long, or a line of it has a fault, no later one than may follow
 --                                  60,000 line ends
---   Early n, read-early         == so the number is at most 3, or 10, and none of 4 to 9
---   refused-early               == and no line is above 60,001
+--   Early n, read_early         == so the number is at most 3, or 10, and none of 4 to 9
+--   refused_early               == and no line is above 60,001
 use mathlib.Core.Path.{◌≡◌, refl, sym, ap, ◌∙◌}
 use mathlib.Core.Bool.{Bool, true, false, cond}
 use mathlib.Core.List.{List}
@@ -38,10 +38,10 @@ use Rattle.reader.specs.declared.Draft.{Draft}
 use Rattle.reader.specs.declared.Outcome.{Outcome}
 use Rattle.reader.specs.declared.Outcome.TheVariants as outcome
 use Rattle.reader.specs.declared.Reading.{Reading}
-use Rattle.reader.proofs.Sticky.{Placed, draft-placed}
+use Rattle.reader.proofs.Sticky.{Placed, draft_placed}
 
 module _ (s : List ℕ) where
-  pub draft-made : (m : Map) (bound : ℕ) (h : AutomatonBlock) (count : Line) (n : ℕ) (x : SoftBlocks) (l : Line)
+  pub draft_made : (m : Map) (bound : ℕ) (h : AutomatonBlock) (count : Line) (n : ℕ) (x : SoftBlocks) (l : Line)
       → m ≡ map_of s → bound ≡ 2 ^ m.marks → h ≡ hard_block s m.line bound → count ≡ line_of_one s h.line rules_key 0 9
       → n ≡ first_of count → x ≡ soft_blocks s count n bound → l ≡ finish s x.line
       → ◌≡◌ {A = Draft} (record {
@@ -61,7 +61,7 @@ module _ (s : List ℕ) where
         };
       }) (draft_of s)
   unfolding draft_of
-  draft-made m bound h count n x l e1 e2 e3 e4 e5 e6 e7 = rw (e7, e6, e5, e4, e3, e2, e1)
+  draft_made m bound h count n x l e1 e2 e3 e4 e5 e6 e7 = rw (e7, e6, e5, e4, e3, e2, e1)
 
   pub too_long : 60000 < length s → refuse cause.PlanTooLong ≡ read_plan s
   unfolding read_plan
@@ -88,14 +88,14 @@ pub record Early (n : ℕ) : Type 0 where
 early : (n : ℕ) → n ≤ 3 → Early n
 early n h = record { low = omega arith; none = λ k a b e. omega arith }
 
-fault-early : (f : Fault) → Early (fault.number f)
-fault-early (Form n) = early 2 (omega arith)
-fault-early (Range n) = early 3 (omega arith)
-fault-early (Doubled n) = record { low = omega arith; none = λ k a b e. omega arith }
+fault_early : (f : Fault) → Early (fault.number f)
+fault_early (Form n) = early 2 (omega arith)
+fault_early (Range n) = early 3 (omega arith)
+fault_early (Doubled n) = record { low = omega arith; none = λ k a b e. omega arith }
 
-turned-early : {x : Refusal} → Turned x → Early (refusal.number x) × (refusal.line_of x ≤ 60001)
-turned-early (long e) = rw e (early 1 (omega arith), omega arith)
-turned-early (lined f e low high) = rw e (fault-early f, high)
+turned_early : {x : Refusal} → Turned x → Early (refusal.number x) × (refusal.line_of x ≤ 60001)
+turned_early (long e) = rw e (early 1 (omega arith), omega arith)
+turned_early (lined f e low high) = rw e (fault_early f, high)
 
 module _ (s : List ℕ) where
   answered : (l : Line) (p : Plan) → length s ≤ 60000 → Placed s l → (x : Refusal) → (answer l p).outcome ≡ outcome.Refused x → Turned x
@@ -103,21 +103,21 @@ module _ (s : List ℕ) where
   answered (line.Fault f) p h at x e = lined f (cc) at.0 (omega arith)
   answered (line.Numbers xs c) p h at x e = let z : ◌≡◌ {A = ℕ} 0 1 = cc in absurd (omega arith)
 
-  pub read-turned : (x : Refusal) → (read_plan s).outcome ≡ outcome.Refused x → Turned x
+  pub read_turned : (x : Refusal) → (read_plan s).outcome ≡ outcome.Refused x → Turned x
   unfolding read_plan
-  read-turned x = by (ltb 60000 (length s)) refl
+  read_turned x = by (ltb 60000 (length s)) refl
     where
       by : (b : Bool) → ltb 60000 (length s) ≡ b
           → (cond b (refuse cause.PlanTooLong) (answer (draft_of s).line (draft_of s).plan)).outcome ≡ outcome.Refused x → Turned x
       by true e k = long (cc)
-      by false e k = answered (draft_of s).line (draft_of s).plan (ltb-false 60000 (length s) e) (draft-placed s) x k
+      by false e k = answered (draft_of s).line (draft_of s).plan (ltb-false 60000 (length s) e) (draft_placed s) x k
 
-  pub read-early : Early (number (read_plan s).outcome) × (line_of (read_plan s).outcome ≤ 60001)
-  read-early = by (read_plan s).outcome refl
+  pub read_early : Early (number (read_plan s).outcome) × (line_of (read_plan s).outcome ≤ 60001)
+  read_early = by (read_plan s).outcome refl
     where
       by : (o : Outcome) → (read_plan s).outcome ≡ o → Early (number o) × (line_of o ≤ 60001)
       by outcome.Plan e = (early 0 (omega arith), omega arith)
-      by (outcome.Refused x) e = turned-early (read-turned x e)
+      by (outcome.Refused x) e = turned_early (read_turned x e)
 
-  pub refused-early : (r : Reading) → r ≡ read_plan s → (x : Refusal) → r.outcome ≡ outcome.Refused x → refusal.line_of x ≤ 60001
-  refused-early r same x e = (turned-early (read-turned x (ap (λ y. y.outcome) (sym same) ∙ e))).1
+  pub refused_early : (r : Reading) → r ≡ read_plan s → (x : Refusal) → r.outcome ≡ outcome.Refused x → refusal.line_of x ≤ 60001
+  refused_early r same x e = (turned_early (read_turned x (ap (λ y. y.outcome) (sym same) ∙ e))).1

@@ -12,23 +12,23 @@ use Rattle.text.specs.declared.line.Line.{Line}
 use Rattle.reader.specs.declared.block.LabelBlock.{LabelBlock}
 use Rattle.reader.specs.declared.block.RoadBlock.{RoadBlock}
 use Rattle.reader.specs.declared.block.MoveBlock.{MoveBlock}
-use Rattle.text.proofs.Lines.{one-is}
-use Rattle.reader.proofs.Lines.{road-low, move-is}
+use Rattle.text.proofs.Lines.{one_is}
+use Rattle.reader.proofs.Lines.{road_low, move_is}
 
 -- what each line keeps of the block and of the count of lines read, n lines keep
 module _ {B : Type 0} (f : Filling B → Filling B) (Q : ℕ → B → Type 0) (next : (x : Filling B) → (f x).next ≡ x.next + 1)
     (step : (x : Filling B) → Q x.next x.block → Q (f x).next (f x).block) where
-  filled-from : (n : ℕ) (x : Filling B) → Q x.next x.block → Q (x.next + n) (repeat n f x).block
+  filled_from : (n : ℕ) (x : Filling B) → Q x.next x.block → Q (x.next + n) (repeat n f x).block
   unfolding repeat
-  filled-from zero x q = let e : x.next ≡ x.next + 0 = omega arith in subst (λ (i : ℕ). Q i x.block) e q
-  filled-from (suc n) x q =
+  filled_from zero x q = let e : x.next ≡ x.next + 0 = omega arith in subst (λ (i : ℕ). Q i x.block) e q
+  filled_from (suc n) x q =
       let e : (f x).next + n ≡ x.next + suc n = omega (arith, next x) in
-      subst (λ (i : ℕ). Q i (repeat n f (f x)).block) e (filled-from n (f x) (step x q))
+      subst (λ (i : ℕ). Q i (repeat n f (f x)).block) e (filled_from n (f x) (step x q))
 
   pub filled : (n : ℕ) (b : B) → Q 0 b → Q n (repeat n f (record { next = 0; block = b })).block
   filled n b q =
       let e : 0 + n ≡ n = omega arith in
-      subst (λ (i : ℕ). Q i (repeat n f (record { next = 0; block = b })).block) e (filled-from n (record { next = 0; block = b }) q)
+      subst (λ (i : ℕ). Q i (repeat n f (record { next = 0; block = b })).block) e (filled_from n (record { next = 0; block = b }) q)
 
 pub record Column (m i : ℕ) (xs : List ℕ) : Type 0 where
   pub low : (k : ℕ) → get_or xs k 0 ≤ m
@@ -48,11 +48,11 @@ module _ {A : Type 0} (P : A → Type 0) (z : A) where
   all_set (y ∷ ys) (suc i) x h p zero = h zero
   all_set (y ∷ ys) (suc i) x h p (suc k) = all_set ys i x (λ j. h (suc j)) p k
 
-pub zeros-rest : (n : ℕ) → ZeroFrom 0 (replicate n 0)
-zeros-rest n k h = all_same (λ x. x ≡ 0) 0 refl n k
+pub zeros_rest : (n : ℕ) → ZeroFrom 0 (replicate n 0)
+zeros_rest n k h = all_same (λ x. x ≡ 0) 0 refl n k
 
-column-zeros : (m n : ℕ) → Column m 0 (replicate n 0)
-column-zeros m n = record { low = all_same (λ x. x ≤ m) 0 (omega arith) n; rest = zeros-rest n }
+column_zeros : (m n : ℕ) → Column m 0 (replicate n 0)
+column_zeros m n = record { low = all_same (λ x. x ≤ m) 0 (omega arith) n; rest = zeros_rest n }
 
 pub set_rest : (xs : List ℕ) (i x : ℕ) → ZeroFrom i xs → ZeroFrom (i + 1) (set xs i x)
 set_rest xs i x h k o =
@@ -60,30 +60,30 @@ set_rest xs i x h k o =
     let l : i ≤ k = omega arith in
     get_or-set_other xs i k x 0 d ∙ h k l
 
-column-set : {m i : ℕ} {xs : List ℕ} (x : ℕ) → Column m i xs → x ≤ m → Column m (i + 1) (set xs i x)
-column-set {m} {i} {xs} x c l = record { low = all_set (λ y. y ≤ m) 0 xs i x c.low l; rest = set_rest xs i x c.rest }
+column_set : {m i : ℕ} {xs : List ℕ} (x : ℕ) → Column m i xs → x ≤ m → Column m (i + 1) (set xs i x)
+column_set {m} {i} {xs} x c l = record { low = all_set (λ y. y ≤ m) 0 xs i x c.low l; rest = set_rest xs i x c.rest }
 
-pub column-below : (bound i : ℕ) (xs : List ℕ) → 1 ≤ bound → Column (bound - 1) i xs → Below bound xs
-column-below bound i xs o c k = let z = c.low k in omega arith
+pub column_below : (bound i : ℕ) (xs : List ℕ) → 1 ≤ bound → Column (bound - 1) i xs → Below bound xs
+column_below bound i xs o c k = let z = c.low k in omega arith
 
 module _ (s : List ℕ) where
-  pub labels-filled : (l : Line) (n bound : ℕ) → Column (bound - 1) n (label_block s l n bound).labels
+  pub labels_filled : (l : Line) (n bound : ℕ) → Column (bound - 1) n (label_block s l n bound).labels
   unfolding label_block
-  labels-filled l n bound =
+  labels_filled l n bound =
       filled (label_step s bound) (λ (i : ℕ) (b : LabelBlock). Column (bound - 1) i b.labels) (λ x. refl)
-      (λ x q. column-set _ q (one-is s x.block.line _ 0 bound _ refl).first-low)
-      n _ (column-zeros (bound - 1) 128)
+      (λ x q. column_set _ q (one_is s x.block.line _ 0 bound _ refl).first_low)
+      n _ (column_zeros (bound - 1) 128)
 
   pub record RoadColumns (bound i : ℕ) (b : RoadBlock) : Type 0 where
     pub from : Column (bound - 1) i b.from
     pub to : Column (bound - 1) i b.to
 
-  pub roads-filled : (l : Line) (n bound : ℕ) → RoadColumns bound n (road_block s l n bound)
+  pub roads_filled : (l : Line) (n bound : ℕ) → RoadColumns bound n (road_block s l n bound)
   unfolding road_block
-  roads-filled l n bound =
+  roads_filled l n bound =
       filled (road_step s bound) (RoadColumns bound) (λ x. refl)
-      (λ x q. let t = road-low s x.block.line _ bound _ _ refl in record { from = column-set _ q.from t.0; to = column-set _ q.to t.1 })
-      n _ (record { from = column-zeros (bound - 1) 1024; to = column-zeros (bound - 1) 1024 })
+      (λ x q. let t = road_low s x.block.line _ bound _ _ refl in record { from = column_set _ q.from t.0; to = column_set _ q.to t.1 })
+      n _ (record { from = column_zeros (bound - 1) 1024; to = column_zeros (bound - 1) 1024 })
 
   pub record MoveColumns (q labels i : ℕ) (b : MoveBlock) : Type 0 where
     pub from : Column (q - 1) i b.from
@@ -92,22 +92,22 @@ module _ (s : List ℕ) where
     pub any : Column (labels - 1) i b.any
     pub to : Column (q - 1) i b.to
 
-  pub moves-filled : (l : Line) (n q labels : ℕ) → MoveColumns q labels n (move_block s l n q labels)
+  pub moves_filled : (l : Line) (n q labels : ℕ) → MoveColumns q labels n (move_block s l n q labels)
   unfolding move_block
-  moves-filled l n q labels =
+  moves_filled l n q labels =
       filled (move_step s q labels) (MoveColumns q labels) (λ x. refl)
-      (λ x c. let t = move-is s x.block.line _ q labels _ refl in record {
-        from = column-set _ c.from t.first-low;
-        need = column-set _ c.need t.second-low;
-        bar = column-set _ c.bar t.third-low;
-        any = column-set _ c.any t.fourth-low;
-        to = column-set _ c.to t.fifth-low;
+      (λ x c. let t = move_is s x.block.line _ q labels _ refl in record {
+        from = column_set _ c.from t.first_low;
+        need = column_set _ c.need t.second_low;
+        bar = column_set _ c.bar t.third_low;
+        any = column_set _ c.any t.fourth_low;
+        to = column_set _ c.to t.fifth_low;
       })
       n _
       (record {
-        from = column-zeros (q - 1) 64;
-        need = column-zeros (labels - 1) 64;
-        bar = column-zeros (labels - 1) 64;
-        any = column-zeros (labels - 1) 64;
-        to = column-zeros (q - 1) 64;
+        from = column_zeros (q - 1) 64;
+        need = column_zeros (labels - 1) 64;
+        bar = column_zeros (labels - 1) 64;
+        any = column_zeros (labels - 1) 64;
+        to = column_zeros (q - 1) 64;
       })

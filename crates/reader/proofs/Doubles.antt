@@ -3,13 +3,13 @@
 --   road_before, step_before, roads_before, map_before, read_before
 --                       == `road_line`, `road_step`, `road_block`, `map_of` and `read_plan`, with roads on any number of lines
 --   AtDouble l          == l is the fault of a doubled road
---   line-narrowed, roads-narrowed, map-narrowed, draft-narrowed
+--   line_narrowed, roads_narrowed, map_narrowed, draft_narrowed
 --                       == lines, blocks, the map and the whole draft are what they were, or have such a fault; then a road stood twice in them
 --   Turned s            == s is turned away for a doubled road
---   read-narrowed       == every file reads as before, or is turned away so, and a road stands twice in it
---   passed-as-before    == so every file that passes reads as before
---   single-as-before    == and so does every file that passed before and has each road once
---   twice-turned        == a file that passed before and has a road twice is turned away so
+--   read_narrowed       == every file reads as before, or is turned away so, and a road stands twice in it
+--   passed_as_before    == so every file that passes reads as before
+--   single_as_before    == and so does every file that passed before and has each road once
+--   twice_turned        == a file that passed before and has a road twice is turned away so
 use mathlib.Core.Path.{◌≡◌, refl, sym, ap, subst, ◌∙◌}
 use mathlib.Core.Bool.{Bool, true, false, cond}
 use mathlib.Core.List.{List}
@@ -20,7 +20,7 @@ use borrow.Author.Tests.{eqb-true}
 use lib.Dec.{eqb, ltb}
 use lib.ListN.{length, get_or, set, replicate, length-set, length-replicate}
 use lib.Seq.{get_or-set_same, get_or-set_other}
-use Rattle.base.proofs.Tests.{and_left, and_right, any-elim}
+use Rattle.base.proofs.Tests.{and_left, and_right, any_elim}
 use Rattle.text.specs.Scan.{key_at, next_number, value_of, line_at}
 use Rattle.text.specs.Line.{behind, pair, closed, line_of_one, numbers_of, first_of, top, finish}
 use Rattle.text.specs.declared.fault.Fault.{Fault}
@@ -30,7 +30,7 @@ use Rattle.text.specs.declared.read.Number.TheVariants.{Value, Bad}
 use Rattle.text.specs.declared.line.Numbers.{Numbers}
 use Rattle.text.specs.declared.line.Line.{Line}
 use Rattle.text.specs.declared.line.Line.TheVariants as line
-use Rattle.text.proofs.Lines.{one-is}
+use Rattle.text.proofs.Lines.{one_is}
 use Rattle.plan.specs.declared.Plan.{Plan}
 use Rattle.plan.specs.declared.Refusal.TheVariants as refusal
 use Rattle.reader.specs.Keys.{tour_key, marks_key, places_key, start_key, roads_key, road_key, rules_key}
@@ -43,9 +43,9 @@ use Rattle.reader.specs.declared.map.Map.{Map}
 use Rattle.reader.specs.declared.Draft.{Draft}
 use Rattle.reader.specs.declared.Outcome.TheVariants as outcome
 use Rattle.reader.specs.declared.Reading.{Reading}
-use Rattle.reader.proofs.Sticky.{Sticky, hard-keeps, softs-keep}
-use Rattle.reader.proofs.WellRead.{answer-plan}
-use Rattle.reader.proofs.Singles.{Twice, Single, single-twice, read-single}
+use Rattle.reader.proofs.Sticky.{Sticky, hard_keeps, softs_keep}
+use Rattle.reader.proofs.WellRead.{answer_plan}
+use Rattle.reader.proofs.Singles.{Twice, Single, single_twice, read_single}
 
 -- reading as it was
 unfoldable pub road_before : List ℕ → Line → List ℕ → ℕ → Line
@@ -98,64 +98,64 @@ pub record AtDouble (l : Line) : Type 0 where
   pub fault : l ≡ line.Fault (Doubled told)
 
 -- such a fault stays
-behind-double : {l r : Line} → AtDouble l → ((f : Fault) → l ≡ line.Fault f → r ≡ line.Fault f) → AtDouble r
-behind-double d h = record { told = d.told; fault = h _ d.fault }
+behind_double : {l r : Line} → AtDouble l → ((f : Fault) → l ≡ line.Fault f → r ≡ line.Fault f) → AtDouble r
+behind_double d h = record { told = d.told; fault = h _ d.fault }
 
 stays : (s : List ℕ) → Sticky s AtDouble
 unfolding line_of_one road_line move_line
 stays s = record {
-  one = λ l key low bound d. behind-double d (λ f e. rw e);
-  road = λ l key bound again d. behind-double d (λ f e. rw e);
-  move = λ l key q labels d. behind-double d (λ f e. rw e);
+  one = λ l key low bound d. behind_double d (λ f e. rw e);
+  road = λ l key bound again d. behind_double d (λ f e. rw e);
+  move = λ l key q labels d. behind_double d (λ f e. rw e);
 }
 
 -- a line: as it was, or doubled; then it had numbers that are so
 pub record Again (again : Numbers → Bool) (l r : Line) : Type 0 where
-  pub at-double : AtDouble l
-  pub again-there : again (numbers_of r) ≡ true
+  pub at_double : AtDouble l
+  pub again_there : again (numbers_of r) ≡ true
 
 module _ (s : List ℕ) where
-  once-narrowed : (at : ℕ) (again : Numbers → Bool) (b : Number) (fit : Bool) (xs : Numbers)
+  once_narrowed : (at : ℕ) (again : Numbers → Bool) (b : Number) (fit : Bool) (xs : Numbers)
       → (once s at (again xs) (closed s at b fit xs) ≡ closed s at b fit xs) ⊎ Again again (once s at (again xs) (closed s at b fit xs)) (closed s at b fit xs)
-  once-narrowed at again Bad fit xs = inl refl
-  once-narrowed at again (Value v i) false xs = inl refl
-  once-narrowed at again (Value v i) true xs = by (again xs) refl
+  once_narrowed at again Bad fit xs = inl refl
+  once_narrowed at again (Value v i) false xs = inl refl
+  once_narrowed at again (Value v i) true xs = by (again xs) refl
     where
       by : (t : Bool) → again xs ≡ t
           → (once s at (again xs) (line.Numbers xs (record { at = i })) ≡ line.Numbers xs (record { at = i }))
           ⊎ Again again (once s at (again xs) (line.Numbers xs (record { at = i }))) (line.Numbers xs (record { at = i }))
-      by true e = inr (record { at-double = record { told = line_at s at; fault = rw e }; again-there = e })
+      by true e = inr (record { at_double = record { told = line_at s at; fault = rw e }; again_there = e })
       by false e = inl (rw e)
 
-  pub line-narrowed : (l : Line) (key : List ℕ) (bound : ℕ) (again : Numbers → Bool)
+  pub line_narrowed : (l : Line) (key : List ℕ) (bound : ℕ) (again : Numbers → Bool)
       → (road_line s l key bound again ≡ road_before s l key bound) ⊎ Again again (road_line s l key bound again) (road_before s l key bound)
   unfolding road_line road_before
-  line-narrowed (line.Fault f) key bound again = inl refl
-  line-narrowed (line.Numbers xs c) key bound again =
+  line_narrowed (line.Fault f) key bound again = inl refl
+  line_narrowed (line.Numbers xs c) key bound again =
       let a = next_number s (key_at s c.at key) 44 in let b = next_number s a 10 in let ys = pair (value_of a) (value_of b) in
-      once-narrowed c.at again b (road_fits ys bound) ys
+      once_narrowed c.at again b (road_fits ys bound) ys
 
   -- a road more leaves what stood twice, and a pair that an earlier line has stands twice then
-  twice-more : (from to : List ℕ) (n x y : ℕ) → Twice from to n → Twice (set from n x) (set to n y) (n + 1)
-  twice-more from to n x y t = record {
+  twice_more : (from to : List ℕ) (n x y : ℕ) → Twice from to n → Twice (set from n x) (set to n y) (n + 1)
+  twice_more from to n x y t = record {
     one = t.one;
     other = t.other;
     apart = t.apart;
     listed = omega (arith, t.listed);
-    same_from = from-other t.one (omega (arith, t.apart, t.listed)) ∙ t.same_from ∙ sym (from-other t.other t.listed);
-    same-to = to-other t.one (omega (arith, t.apart, t.listed)) ∙ t.same-to ∙ sym (to-other t.other t.listed);
+    same_from = from_other t.one (omega (arith, t.apart, t.listed)) ∙ t.same_from ∙ sym (from_other t.other t.listed);
+    same_to = to_other t.one (omega (arith, t.apart, t.listed)) ∙ t.same_to ∙ sym (to_other t.other t.listed);
   }
     where
-      from-other : (u : ℕ) → u < n → get_or (set from n x) u 0 ≡ get_or from u 0
-      from-other u h = get_or-set_other from n u x 0 (λ e. omega arith)
+      from_other : (u : ℕ) → u < n → get_or (set from n x) u 0 ≡ get_or from u 0
+      from_other u h = get_or-set_other from n u x 0 (λ e. omega arith)
 
-      to-other : (u : ℕ) → u < n → get_or (set to n y) u 0 ≡ get_or to u 0
-      to-other u h = get_or-set_other to n u y 0 (λ e. omega arith)
+      to_other : (u : ℕ) → u < n → get_or (set to n y) u 0 ≡ get_or to u 0
+      to_other u h = get_or-set_other to n u y 0 (λ e. omega arith)
 
-  twice-new : (b : RoadBlock) (n : ℕ) (xs : Numbers) → n < length b.from → n < length b.to → earlier b n xs ≡ true
+  twice_new : (b : RoadBlock) (n : ℕ) (xs : Numbers) → n < length b.from → n < length b.to → earlier b n xs ≡ true
       → Twice (set b.from n xs.first) (set b.to n xs.second) (n + 1)
-  twice-new b n xs hf ht e =
-      let f = any-elim (on_line b xs) n e in
+  twice_new b n xs hf ht e =
+      let f = any_elim (on_line b xs) n e in
       let u = f.0 in
       record {
         one = u;
@@ -166,7 +166,7 @@ module _ (s : List ℕ) where
             get_or-set_other b.from n u xs.first 0 (λ z. omega (arith, f.1))
             ∙ eqb-true _ _ (and_left _ (eqb (get_or b.to u 0) xs.second) f.2)
             ∙ sym (get_or-set_same b.from n xs.first 0 hf);
-        same-to =
+        same_to =
             get_or-set_other b.to n u xs.second 0 (λ z. omega (arith, f.1))
             ∙ eqb-true _ _ (and_right (eqb (get_or b.from u 0) xs.first) _ f.2)
             ∙ sym (get_or-set_same b.to n xs.second 0 ht);
@@ -174,7 +174,7 @@ module _ (s : List ℕ) where
 
   -- two readings of n road lines, the later and the earlier one
   pub record Stopped (n : ℕ) (x y : RoadBlock) : Type 0 where
-    pub at-double : AtDouble x.line
+    pub at_double : AtDouble x.line
     pub twice : Twice y.from y.to n
 
   abbrev Alike : Filling RoadBlock → Filling RoadBlock → Type 0
@@ -185,42 +185,42 @@ module _ (s : List ℕ) where
     pub to : length y.block.to ≡ 1024
     pub left : y.next + n ≤ 1024
 
-  step-narrowed : (bound n : ℕ) (x y : Filling RoadBlock) → Roomy (suc n) y → Alike x y → Alike (road_step s bound x) (step_before s bound y)
-  step-narrowed bound n x y room (inl e) = by (line-narrowed y.block.line road_key bound (earlier y.block y.next))
+  step_narrowed : (bound n : ℕ) (x y : Filling RoadBlock) → Roomy (suc n) y → Alike x y → Alike (road_step s bound x) (step_before s bound y)
+  step_narrowed bound n x y room (inl e) = by (line_narrowed y.block.line road_key bound (earlier y.block y.next))
     where
       by : (road_line s y.block.line road_key bound (earlier y.block y.next) ≡ road_before s y.block.line road_key bound)
           ⊎ Again (earlier y.block y.next) (road_line s y.block.line road_key bound (earlier y.block y.next)) (road_before s y.block.line road_key bound)
           → Alike (road_step s bound x) (step_before s bound y)
       by (inl d) = inl (rw (e, d))
       by (inr a) = inr (record {
-        at-double = rw e a.at-double;
-        twice = twice-new y.block y.next (numbers_of (road_before s y.block.line road_key bound)) (omega (arith, room.from, room.left)) (omega (arith, room.to, room.left)) a.again-there;
+        at_double = rw e a.at_double;
+        twice = twice_new y.block y.next (numbers_of (road_before s y.block.line road_key bound)) (omega (arith, room.from, room.left)) (omega (arith, room.to, room.left)) a.again_there;
       })
-  step-narrowed bound n x y room (inr p) =
-      inr (record { at-double = (stays s).road x.block.line road_key bound _ p.at-double; twice = twice-more _ _ _ _ _ p.twice })
+  step_narrowed bound n x y room (inr p) =
+      inr (record { at_double = (stays s).road x.block.line road_key bound _ p.at_double; twice = twice_more _ _ _ _ _ p.twice })
 
-  repeat-narrowed : (bound n : ℕ) (x y : Filling RoadBlock) → Roomy n y → Alike x y
+  repeat_narrowed : (bound n : ℕ) (x y : Filling RoadBlock) → Roomy n y → Alike x y
       → ((repeat n (road_step s bound) x).block ≡ (repeat n (step_before s bound) y).block)
       ⊎ Stopped (y.next + n) (repeat n (road_step s bound) x).block (repeat n (step_before s bound) y).block
   unfolding repeat
-  repeat-narrowed bound zero x y room (inl e) = inl (rw e)
-  repeat-narrowed bound zero x y room (inr p) = let e : y.next + 0 ≡ y.next = omega arith in inr (rw e p)
-  repeat-narrowed bound (suc n) x y room a =
+  repeat_narrowed bound zero x y room (inl e) = inl (rw e)
+  repeat_narrowed bound zero x y room (inr p) = let e : y.next + 0 ≡ y.next = omega arith in inr (rw e p)
+  repeat_narrowed bound (suc n) x y room a =
       let e : y.next + suc n ≡ y.next + 1 + n = omega arith in
-      rw e (repeat-narrowed bound n (road_step s bound x) (step_before s bound y)
+      rw e (repeat_narrowed bound n (road_step s bound x) (step_before s bound y)
       (record {
         from = length-set y.block.from y.next _ ∙ room.from;
         to = length-set y.block.to y.next _ ∙ room.to;
         left = omega (arith, room.left);
       })
-      (step-narrowed bound n x y room a))
+      (step_narrowed bound n x y room a))
 
-  from-narrowed : (bound n : ℕ) (b : RoadBlock) → length b.from ≡ 1024 → length b.to ≡ 1024 → n ≤ 1024
+  from_narrowed : (bound n : ℕ) (b : RoadBlock) → length b.from ≡ 1024 → length b.to ≡ 1024 → n ≤ 1024
       → ((repeat n (road_step s bound) (record { next = 0; block = b })).block ≡ (repeat n (step_before s bound) (record { next = 0; block = b })).block)
       ⊎ Stopped n (repeat n (road_step s bound) (record { next = 0; block = b })).block (repeat n (step_before s bound) (record { next = 0; block = b })).block
-  from-narrowed bound n b hf ht h =
+  from_narrowed bound n b hf ht h =
       let e : n ≡ 0 + n = omega arith in
-      subst (λ k. (x ≡ y) ⊎ Stopped k x y) (sym e) (repeat-narrowed bound n start start (record { from = hf; to = ht; left = omega arith }) (inl refl))
+      subst (λ k. (x ≡ y) ⊎ Stopped k x y) (sym e) (repeat_narrowed bound n start start (record { from = hf; to = ht; left = omega arith }) (inl refl))
     where
       start : Filling RoadBlock
       start = record { next = 0; block = b }
@@ -231,18 +231,18 @@ module _ (s : List ℕ) where
       y : RoadBlock
       y = (repeat n (step_before s bound) start).block
 
-  pub roads-narrowed : (l : Line) (n bound : ℕ) → n ≤ 1024
+  pub roads_narrowed : (l : Line) (n bound : ℕ) → n ≤ 1024
       → (road_block s l n bound ≡ roads_before s l n bound) ⊎ Stopped n (road_block s l n bound) (roads_before s l n bound)
   unfolding road_block roads_before
-  roads-narrowed l n bound h = from-narrowed bound n _ (length-replicate {A = ℕ} 1024 0) (length-replicate {A = ℕ} 1024 0) h
+  roads_narrowed l n bound h = from_narrowed bound n _ (length-replicate {A = ℕ} 1024 0) (length-replicate {A = ℕ} 1024 0) h
 
   -- two roads of the map as it was are the same
   abbrev pub TwiceBefore : Type 0
   TwiceBefore = Twice (map_before s).from (map_before s).to (map_before s).roads
 
-  pub map-narrowed : (map_of s ≡ map_before s) ⊎ (AtDouble (map_of s).line × TwiceBefore)
+  pub map_narrowed : (map_of s ≡ map_before s) ⊎ (AtDouble (map_of s).line × TwiceBefore)
   unfolding map_of map_before
-  map-narrowed = by (roads-narrowed count (first_of count) (first_of places) (omega (arith, (one-is s start roads_key 0 1025 count refl).first-low)))
+  map_narrowed = by (roads_narrowed count (first_of count) (first_of places) (omega (arith, (one_is s start roads_key 0 1025 count refl).first_low)))
     where
       marks : Line
       marks = line_of_one s (line_of_one s top tour_key 1 2) marks_key 0 9
@@ -260,15 +260,15 @@ module _ (s : List ℕ) where
           ⊎ Stopped (first_of count) (road_block s count (first_of count) (first_of places)) (roads_before s count (first_of count) (first_of places))
           → (map_of s ≡ map_before s) ⊎ (AtDouble (map_of s).line × TwiceBefore)
       by (inl e) = inl (rw e)
-      by (inr p) = inr (p.at-double, p.twice)
+      by (inr p) = inr (p.at_double, p.twice)
 
-  finish-double : (l : Line) → AtDouble l → AtDouble (finish s l)
+  finish_double : (l : Line) → AtDouble l → AtDouble (finish s l)
   unfolding finish
-  finish-double l d = behind-double d (λ f e. rw e)
+  finish_double l d = behind_double d (λ f e. rw e)
 
-  pub draft-narrowed : (draft_of s ≡ draft_from s (map_before s)) ⊎ (AtDouble (draft_of s).line × TwiceBefore)
+  pub draft_narrowed : (draft_of s ≡ draft_from s (map_before s)) ⊎ (AtDouble (draft_of s).line × TwiceBefore)
   unfolding draft_of
-  draft-narrowed = by map-narrowed
+  draft_narrowed = by map_narrowed
     where
       by : (map_of s ≡ map_before s) ⊎ (AtDouble (map_of s).line × TwiceBefore)
           → (draft_of s ≡ draft_from s (map_before s)) ⊎ (AtDouble (draft_of s).line × TwiceBefore)
@@ -278,9 +278,9 @@ module _ (s : List ℕ) where
           let hard = hard_block s (map_of s).line bound in
           let count = line_of_one s hard.line rules_key 0 9 in
           inr (
-            finish-double (soft_blocks s count (first_of count) bound).line
-                (softs-keep s AtDouble (stays s) count (first_of count) bound
-                ((stays s).one hard.line rules_key 0 9 (hard-keeps s AtDouble (stays s) (map_of s).line bound d.0))),
+            finish_double (soft_blocks s count (first_of count) bound).line
+                (softs_keep s AtDouble (stays s) count (first_of count) bound
+                ((stays s).one hard.line rules_key 0 9 (hard_keeps s AtDouble (stays s) (map_of s).line bound d.0))),
             d.1,
           )
 
@@ -289,57 +289,57 @@ pub record Turned (s : List ℕ) : Type 0 where
   pub refused : read_plan s ≡ refuse (refusal.Line (Doubled told))
   pub twice : TwiceBefore s
 
-answer-double : (l : Line) (p : Plan) (d : AtDouble l) → answer l p ≡ refuse (refusal.Line (Doubled d.told))
+answer_double : (l : Line) (p : Plan) (d : AtDouble l) → answer l p ≡ refuse (refusal.Line (Doubled d.told))
 unfolding answer
-answer-double l p d = rw d.fault
+answer_double l p d = rw d.fault
 
-pub read-narrowed : (s : List ℕ) → (read_plan s ≡ read_before s) ⊎ Turned s
+pub read_narrowed : (s : List ℕ) → (read_plan s ≡ read_before s) ⊎ Turned s
 unfolding read_plan read_before
-read-narrowed s = by (ltb 60000 (length s)) refl (draft-narrowed s)
+read_narrowed s = by (ltb 60000 (length s)) refl (draft_narrowed s)
   where
     by : (t : Bool) → ltb 60000 (length s) ≡ t → (draft_of s ≡ draft_from s (map_before s)) ⊎ (AtDouble (draft_of s).line × TwiceBefore s)
         → (read_plan s ≡ read_before s) ⊎ Turned s
     by true e d = inl (rw e)
     by false e (inl d) = inl (ap (answer_to s) d)
-    by false e (inr d) = inr (record { told = d.0.told; refused = rw e (answer-double (draft_of s).line (draft_of s).plan d.0); twice = d.1 })
+    by false e (inr d) = inr (record { told = d.0.told; refused = rw e (answer_double (draft_of s).line (draft_of s).plan d.0); twice = d.1 })
 
 -- what is refused is no plan
-turned-no-plan : {s : List ℕ} → Turned s → (read_plan s).outcome ≡ outcome.Plan → ⊥
-turned-no-plan t e = let z : ◌≡◌ {A = ℕ} 0 1 = cc (sym e ∙ ap (λ (r : Reading). r.outcome) t.refused) in omega arith
+turned_no_plan : {s : List ℕ} → Turned s → (read_plan s).outcome ≡ outcome.Plan → ⊥
+turned_no_plan t e = let z : ◌≡◌ {A = ℕ} 0 1 = cc (sym e ∙ ap (λ (r : Reading). r.outcome) t.refused) in omega arith
 
-pub passed-as-before : (s : List ℕ) → (read_plan s).outcome ≡ outcome.Plan → read_plan s ≡ read_before s
-passed-as-before s passed = by (read-narrowed s)
+pub passed_as_before : (s : List ℕ) → (read_plan s).outcome ≡ outcome.Plan → read_plan s ≡ read_before s
+passed_as_before s passed = by (read_narrowed s)
   where
     by : (read_plan s ≡ read_before s) ⊎ Turned s → read_plan s ≡ read_before s
     by (inl e) = e
-    by (inr t) = absurd (turned-no-plan t passed)
+    by (inr t) = absurd (turned_no_plan t passed)
 
 module _ (s : List ℕ) (passed : (read_before s).outcome ≡ outcome.Plan) where
   -- the plan of a file that passed before has the roads that the map had
   abbrev old : Draft
   old = draft_from s (map_before s)
 
-  old-plan : (read_before s).plan ≡ old.plan
+  old_plan : (read_before s).plan ≡ old.plan
   unfolding read_before
-  old-plan = by (ltb 60000 (length s)) passed
+  old_plan = by (ltb 60000 (length s)) passed
     where
       by : (t : Bool) → (cond t (refuse refusal.PlanTooLong) (answer old.line old.plan)).outcome ≡ outcome.Plan
           → (cond t (refuse refusal.PlanTooLong) (answer old.line old.plan)).plan ≡ old.plan
       by true e = let z : ◌≡◌ {A = ℕ} 0 1 = cc in absurd (omega arith)
-      by false e = (answer-plan old.line old.plan e).same
+      by false e = (answer_plan old.line old.plan e).same
 
-  pub single-as-before : Single (read_before s).plan.from (read_before s).plan.to (read_before s).plan.roads → read_plan s ≡ read_before s
-  single-as-before single = by (read-narrowed s)
+  pub single_as_before : Single (read_before s).plan.from (read_before s).plan.to (read_before s).plan.roads → read_plan s ≡ read_before s
+  single_as_before single = by (read_narrowed s)
     where
       by : (read_plan s ≡ read_before s) ⊎ Turned s → read_plan s ≡ read_before s
       by (inl e) = e
-      by (inr t) = absurd (single-twice (subst (λ (p : Plan). Single p.from p.to p.roads) old-plan single) t.twice)
+      by (inr t) = absurd (single_twice (subst (λ (p : Plan). Single p.from p.to p.roads) old_plan single) t.twice)
 
-  pub twice-turned : Twice (read_before s).plan.from (read_before s).plan.to (read_before s).plan.roads → Turned s
-  twice-turned twice = by (read-narrowed s)
+  pub twice_turned : Twice (read_before s).plan.from (read_before s).plan.to (read_before s).plan.roads → Turned s
+  twice_turned twice = by (read_narrowed s)
     where
       by : (read_plan s ≡ read_before s) ⊎ Turned s → Turned s
       by (inl e) =
           let now : (read_plan s).outcome ≡ outcome.Plan = ap (λ (r : Reading). r.outcome) e ∙ passed in
-          absurd (single-twice (subst (λ (r : Reading). Single r.plan.from r.plan.to r.plan.roads) e (read-single s now)) twice)
+          absurd (single_twice (subst (λ (r : Reading). Single r.plan.from r.plan.to r.plan.roads) e (read_single s now)) twice)
       by (inr t) = t

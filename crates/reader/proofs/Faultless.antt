@@ -19,94 +19,94 @@ use Rattle.text.specs.declared.line.Numbers.{Numbers}
 use Rattle.text.specs.declared.line.Line.{Line}
 use Rattle.text.specs.declared.line.Line.TheVariants as line
 use Rattle.reader.specs.declared.block.SoftBlocks.{SoftBlocks}
-use Rattle.text.proofs.Lines.{within_both, Led, First, one-led}
-use Rattle.reader.proofs.Lines.{road-led, move-led}
-use Rattle.reader.proofs.Sticky.{Sticky, moves-keep, soft-keeps}
-use Rattle.reader.proofs.Columns.{filled, all_same, column-below, set_rest, zeros-rest, moves-filled}
+use Rattle.text.proofs.Lines.{within_both, Led, First, one_led}
+use Rattle.reader.proofs.Lines.{road_led, move_led}
+use Rattle.reader.proofs.Sticky.{Sticky, moves_keep, soft_keeps}
+use Rattle.reader.proofs.Columns.{filled, all_same, column_below, set_rest, zeros_rest, moves_filled}
 
 abbrev pub Faulty : Line → Type 0
 Faulty l = good l ≡ false
 
-led-faulty : (s : List ℕ) (Q : Numbers → Type 0) (l r : Line) → Led s Q l r → Faulty l → Faulty r
-led-faulty s Q l (line.Numbers xs c) g p = let z : ◌≡◌ {A = ℕ} 0 1 = cc in absurd (omega arith)
-led-faulty s Q l (line.Fault f) g p = refl
+led_faulty : (s : List ℕ) (Q : Numbers → Type 0) (l r : Line) → Led s Q l r → Faulty l → Faulty r
+led_faulty s Q l (line.Numbers xs c) g p = let z : ◌≡◌ {A = ℕ} 0 1 = cc in absurd (omega arith)
+led_faulty s Q l (line.Fault f) g p = refl
 
 pub faulty : (s : List ℕ) → Sticky s Faulty
 faulty s = record {
-  one = λ l key low bound. led-faulty s _ l (line_of_one s l key low bound) (one-led s l key low bound);
-  road = λ l key bound again. led-faulty s _ l (road_line s l key bound again) (road-led s l key bound again);
-  move = λ l key q labels. led-faulty s _ l (move_line s l key q labels) (move-led s l key q labels);
+  one = λ l key low bound. led_faulty s _ l (line_of_one s l key low bound) (one_led s l key low bound);
+  road = λ l key bound again. led_faulty s _ l (road_line s l key bound again) (road_led s l key bound again);
+  move = λ l key q labels. led_faulty s _ l (move_line s l key q labels) (move_led s l key q labels);
 }
 
 -- what keeps a fault has none only behind a line that has none
-pub was-good : (l r : Line) → (Faulty l → Faulty r) → good r ≡ true → good l ≡ true
-was-good (line.Numbers xs c) r h e = refl
-was-good (line.Fault f) r h e = let p : good r ≡ false = h refl in let z : ◌≡◌ {A = ℕ} 0 1 = cc in absurd (omega arith)
+pub was_good : (l r : Line) → (Faulty l → Faulty r) → good r ≡ true → good l ≡ true
+was_good (line.Numbers xs c) r h e = refl
+was_good (line.Fault f) r h e = let p : good r ≡ false = h refl in let z : ◌≡◌ {A = ℕ} 0 1 = cc in absurd (omega arith)
 
-pub finish-good : (s : List ℕ) (l : Line) → good (finish s l) ≡ true → good l ≡ true
+pub finish_good : (s : List ℕ) (l : Line) → good (finish s l) ≡ true → good l ≡ true
 unfolding finish
-finish-good s (line.Fault f) e = e
-finish-good s (line.Numbers xs c) e = refl
+finish_good s (line.Fault f) e = e
+finish_good s (line.Numbers xs c) e = refl
 
 pub record OneGood (low bound : ℕ) (l r : Line) : Type 0 where
   pub was : good l ≡ true
   pub least : low ≤ first_of r
   pub below : first_of r < bound
 
-led-good : (s : List ℕ) (low bound : ℕ) (l r : Line) → Led s (First low bound) l r → good r ≡ true → OneGood low bound l r
-led-good s low bound l (line.Numbers xs c) g e =
+led_good : (s : List ℕ) (low bound : ℕ) (l r : Line) → Led s (First low bound) l r → good r ≡ true → OneGood low bound l r
+led_good s low bound l (line.Numbers xs c) g e =
     let h = within_both xs.first low bound g.1 in
     record { was = g.0; least = h.0; below = h.1 }
-led-good s low bound l (line.Fault f) g e = let z : ◌≡◌ {A = ℕ} 0 1 = cc in absurd (omega arith)
+led_good s low bound l (line.Fault f) g e = let z : ◌≡◌ {A = ℕ} 0 1 = cc in absurd (omega arith)
 
-pub one-good : (s : List ℕ) (l : Line) (key : List ℕ) (low bound : ℕ) → good (line_of_one s l key low bound) ≡ true
+pub one_good : (s : List ℕ) (l : Line) (key : List ℕ) (low bound : ℕ) → good (line_of_one s l key low bound) ≡ true
     → OneGood low bound l (line_of_one s l key low bound)
-one-good s l key low bound = led-good s low bound l (line_of_one s l key low bound) (one-led s l key low bound)
+one_good s l key low bound = led_good s low bound l (line_of_one s l key low bound) (one_led s l key low bound)
 
 -- an automaton's lines
 module _ (s : List ℕ) (l : Line) (q labels : ℕ) (e : good (automaton_block s l q labels).line ≡ true) where
-  abbrev first-line : Line
-  first-line = line_of_one s l first_key 0 q
+  abbrev first_line : Line
+  first_line = line_of_one s l first_key 0 q
 
-  abbrev accept-line : Line
-  accept-line = line_of_one s first-line accept_key 0 (2 ^ q)
+  abbrev accept_line : Line
+  accept_line = line_of_one s first_line accept_key 0 (2 ^ q)
 
-  abbrev count-line : Line
-  count-line = line_of_one s accept-line moves_key 0 65
+  abbrev count_line : Line
+  count_line = line_of_one s accept_line moves_key 0 65
 
-  count-good : OneGood 0 65 accept-line count-line
+  count_good : OneGood 0 65 accept_line count_line
   unfolding automaton_block
-  count-good =
-      one-good s accept-line moves_key 0 65
-      (was-good count-line (move_block s count-line (first_of count-line) q labels).line (moves-keep s Faulty (faulty s) count-line (first_of count-line) q labels) e)
+  count_good =
+      one_good s accept_line moves_key 0 65
+      (was_good count_line (move_block s count_line (first_of count_line) q labels).line (moves_keep s Faulty (faulty s) count_line (first_of count_line) q labels) e)
 
-  accept-good : OneGood 0 (2 ^ q) first-line accept-line
-  accept-good = one-good s first-line accept_key 0 (2 ^ q) count-good.was
+  accept_good : OneGood 0 (2 ^ q) first_line accept_line
+  accept_good = one_good s first_line accept_key 0 (2 ^ q) count_good.was
 
-  first_good : OneGood 0 q l first-line
-  first_good = one-good s l first_key 0 q accept-good.was
+  first_good : OneGood 0 q l first_line
+  first_good = one_good s l first_key 0 q accept_good.was
 
-  automaton-read : (most : ℕ) → 1 ≤ q → q ≤ most → 1 ≤ labels → automaton.WellFormed most labels (automaton_block s l q labels).automaton
+  automaton_read : (most : ℕ) → 1 ≤ q → q ≤ most → 1 ≤ labels → automaton.WellFormed most labels (automaton_block s l q labels).automaton
   unfolding automaton_block
-  automaton-read most o h m =
-      let n = first_of count-line in
-      let x = moves-filled s count-line n q labels in
+  automaton_read most o h m =
+      let n = first_of count_line in
+      let x = moves_filled s count_line n q labels in
       record {
         some = o;
         few = h;
         first = first_good.below;
-        accept = accept-good.below;
-        moves = omega (arith, count-good.below);
-        from = column-below q n _ o x.from;
-        need = column-below labels n _ m x.need;
-        bar = column-below labels n _ m x.bar;
-        any = column-below labels n _ m x.any;
-        to = column-below q n _ o x.to;
+        accept = accept_good.below;
+        moves = omega (arith, count_good.below);
+        from = column_below q n _ o x.from;
+        need = column_below labels n _ m x.need;
+        bar = column_below labels n _ m x.bar;
+        any = column_below labels n _ m x.any;
+        to = column_below q n _ o x.to;
         rest_from = x.from.rest;
-        rest-need = x.need.rest;
-        rest-bar = x.bar.rest;
-        rest-any = x.any.rest;
-        rest-to = x.to.rest;
+        rest_need = x.need.rest;
+        rest_bar = x.bar.rest;
+        rest_any = x.any.rest;
+        rest_to = x.to.rest;
       }
 
 pub record SoftRead (labels : ℕ) (a : Automaton) (w : ℕ) : Type 0 where
@@ -114,68 +114,68 @@ pub record SoftRead (labels : ℕ) (a : Automaton) (w : ℕ) : Type 0 where
   pub heavy : w ≤ 4000000
 
 module _ (s : List ℕ) (l : Line) (labels : ℕ) (m : 1 ≤ labels) where
-  pub hard-read : good (hard_block s l labels).line ≡ true → automaton.WellFormed 16 labels (hard_block s l labels).automaton
+  pub hard_read : good (hard_block s l labels).line ≡ true → automaton.WellFormed 16 labels (hard_block s l labels).automaton
   unfolding hard_block
-  hard-read e =
+  hard_read e =
       let states = line_of_one s l hard_key 1 17 in
-      let h = one-good s l hard_key 1 17 (first_good s states (first_of states) labels e).was in
-      automaton-read s states (first_of states) labels e 16 h.least (omega (arith, h.below)) m
+      let h = one_good s l hard_key 1 17 (first_good s states (first_of states) labels e).was in
+      automaton_read s states (first_of states) labels e 16 h.least (omega (arith, h.below)) m
 
-  soft-read : good (soft_block s l labels).line ≡ true → SoftRead labels (soft_block s l labels).automaton (soft_block s l labels).weight
+  soft_read : good (soft_block s l labels).line ≡ true → SoftRead labels (soft_block s l labels).automaton (soft_block s l labels).weight
   unfolding soft_block
-  soft-read e =
+  soft_read e =
       let states = line_of_one s l soft_key 1 9 in
       let weight = weight_line s states in
-      let w = one-good s states weight_key _ _ (first_good s weight (first_of states) labels e).was in
-      let h = one-good s l soft_key 1 9 w.was in
+      let w = one_good s states weight_key _ _ (first_good s weight (first_of states) labels e).was in
+      let h = one_good s l soft_key 1 9 w.was in
       record {
-        well = automaton-read s weight (first_of states) labels e 8 h.least (omega (arith, h.below)) m;
+        well = automaton_read s weight (first_of states) labels e 8 h.least (omega (arith, h.below)) m;
         heavy = omega (arith, w.below);
       }
 
 -- i soft rules have been read into b
 pub record SoftsRead (labels i : ℕ) (b : SoftBlocks) : Type 0 where
   pub room : length b.soft ≡ 8
-  pub weight-room : length b.weights ≡ 8
+  pub weight_room : length b.weights ≡ 8
   pub read : good b.line ≡ true → (k : ℕ) → k < i → k < 8 → SoftRead labels (get_or b.soft k no_automaton) (get_or b.weights k 0)
   pub rest : (k : ℕ) → i ≤ k → get_or b.soft k no_automaton ≡ no_automaton
-  pub rest-weights : ZeroFrom i b.weights
+  pub rest_weights : ZeroFrom i b.weights
 
 module _ (s : List ℕ) (labels : ℕ) (m : 1 ≤ labels) where
   module _ (x : Filling SoftBlocks) (p : SoftsRead labels x.next x.block) where
-    soft-put : good (soft_step s labels x).block.line ≡ true → (k : ℕ) → k < x.next + 1 → k < 8 → Dec (k ≡ x.next)
+    soft_put : good (soft_step s labels x).block.line ≡ true → (k : ℕ) → k < x.next + 1 → k < 8 → Dec (k ≡ x.next)
         → SoftRead labels (get_or (soft_step s labels x).block.soft k no_automaton) (get_or (soft_step s labels x).block.weights k 0)
-    soft-put e k h b (yes d) =
+    soft_put e k h b (yes d) =
         let y = soft_block s x.block.line labels in
         let o : x.next < length x.block.soft = omega (arith, p.room) in
-        let u : x.next < length x.block.weights = omega (arith, p.weight-room) in
+        let u : x.next < length x.block.weights = omega (arith, p.weight_room) in
         rw (d, get_or-set_same x.block.soft x.next y.automaton no_automaton o, get_or-set_same x.block.weights x.next y.weight 0 u)
-        (soft-read s x.block.line labels m e)
-    soft-put e k h b (no d) =
+        (soft_read s x.block.line labels m e)
+    soft_put e k h b (no d) =
         let y = soft_block s x.block.line labels in
-        let g = was-good x.block.line y.line (soft-keeps s Faulty (faulty s) x.block.line labels) e in
+        let g = was_good x.block.line y.line (soft_keeps s Faulty (faulty s) x.block.line labels) e in
         rw (get_or-set_other x.block.soft x.next k y.automaton no_automaton d, get_or-set_other x.block.weights x.next k y.weight 0 d)
         (p.read g k (omega arith) b)
 
     soft-step : SoftsRead labels (x.next + 1) (soft_step s labels x).block
     soft-step = record {
       room = simp length-set p.room;
-      weight-room = simp length-set p.weight-room;
-      read = λ e k h b. soft-put e k h b (ℕ_discrete k x.next);
+      weight_room = simp length-set p.weight_room;
+      read = λ e k h b. soft_put e k h b (ℕ_discrete k x.next);
       rest = λ k h.
           let d : k ≡ x.next → ⊥ = λ z. omega arith in
           get_or-set_other x.block.soft x.next k (soft_block s x.block.line labels).automaton no_automaton d ∙ p.rest k (omega arith);
-      rest-weights = set_rest x.block.weights x.next _ p.rest-weights;
+      rest_weights = set_rest x.block.weights x.next _ p.rest_weights;
     }
 
-  pub softs-read : (l : Line) (n : ℕ) → SoftsRead labels n (soft_blocks s l n labels)
+  pub softs_read : (l : Line) (n : ℕ) → SoftsRead labels n (soft_blocks s l n labels)
   unfolding soft_blocks
-  softs-read l n =
+  softs_read l n =
       filled (soft_step s labels) (SoftsRead labels) (λ x. refl) soft-step n _
       (record {
         room = refl;
-        weight-room = refl;
+        weight_room = refl;
         read = λ e k h b. absurd (omega arith);
         rest = λ k h. all_same (λ a. a ≡ no_automaton) no_automaton refl 8 k;
-        rest-weights = zeros-rest 8;
+        rest_weights = zeros_rest 8;
       })

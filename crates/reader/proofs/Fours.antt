@@ -4,12 +4,12 @@
 --   four_line, four_step, four_block   == `move_line`, `move_step` and `move_block`, with lines `key=q,need,bar,r` alone
 --   five_at s at                     == the last number of the move line of five numbers at index `at` of s; Bad if none is there
 --   NoFive s                        == nowhere in s stands a move line of five numbers
---   line-as-before, block-as-before == then move lines, and blocks of them, are what they were
+--   line_as_before, block_as_before == then move lines, and blocks of them, are what they were
 --   Fours a, FourPlan p             == any is 0 throughout in the automaton a, in every automaton of the plan p
---   block-fours, read-fours         == so it is in a block of moves, and in the plan that is read
+--   block_fours, read_fours         == so it is in a block of moves, and in the plan that is read
 --   fits_before a x q i              == move i of a leaves q, and the label x has every bit of its need and no bit of its bar
 --   AsBefore p                      == the automata of p have the fitting moves that they had: no number but these counts
---   answered-as-before              == so it is in the plan that is read
+--   answered_as_before              == so it is in the plan that is read
 use mathlib.Core.Path.{◌≡◌, refl, ap, ◌∙◌}
 use mathlib.Core.Bool.{Bool, true, false, cond, ◌&&◌}
 use mathlib.Core.List.{List}
@@ -25,7 +25,7 @@ use Rattle.text.specs.declared.read.Number.TheVariants.{Value, Bad}
 use Rattle.automata.specs.Automaton.{fits}
 use Rattle.automata.specs.WellFormed.{no_automaton}
 use Rattle.automata.specs.declared.Automaton.{Automaton}
-use Rattle.automata.proofs.Either.{fits-none}
+use Rattle.automata.proofs.Either.{fits_none}
 use Rattle.plan.specs.WellFormed.{soft, no_plan}
 use Rattle.plan.specs.declared.Plan.{Plan}
 use Rattle.plan.specs.declared.Refusal.TheVariants.{PlanTooLong}
@@ -40,7 +40,7 @@ use Rattle.text.specs.declared.line.Line.TheVariants as line
 use Rattle.reader.specs.declared.block.MoveBlock.{MoveBlock}
 use Rattle.reader.specs.declared.block.SoftBlocks.{SoftBlocks}
 use Rattle.reader.proofs.Lines.{numbers}
-use Rattle.reader.proofs.Sticky.{repeat-keeps}
+use Rattle.reader.proofs.Sticky.{repeat_keeps}
 use Rattle.reader.proofs.Columns.{all_set, all_same}
 
 -- reading as it was
@@ -91,8 +91,8 @@ pub record NoFive (s : List ℕ) : Type 0 where
   pub none : (at : ℕ) → five_at s at ≡ Bad
 
 -- 0 is in the range of any, if need is
-zero-fits : (y labels : ℕ) → ltb y labels ≡ true → ltb 0 labels ≡ true
-zero-fits y labels h = lt-ltb 0 labels (omega (arith, ltb-true y labels h))
+zero_fits : (y labels : ℕ) → ltb y labels ≡ true → ltb 0 labels ≡ true
+zero_fits y labels h = lt-ltb 0 labels (omega (arith, ltb-true y labels h))
 
 tests_same : (a b c z e : Bool) → (b ≡ true → z ≡ true) → (a && b && c && z && e) ≡ (a && b && c && e)
 tests_same false b c z e h = refl
@@ -101,61 +101,61 @@ tests_same true true false z e h = refl
 tests_same true true true z e h = rw (h refl)
 
 -- steps that are equal everywhere repeat alike
-repeat-same : {S : Type 0} (f g : S → S) → ((x : S) → f x ≡ g x) → (n : ℕ) (x : S) → repeat n f x ≡ repeat n g x
+repeat_same : {S : Type 0} (f g : S → S) → ((x : S) → f x ≡ g x) → (n : ℕ) (x : S) → repeat n f x ≡ repeat n g x
 unfolding repeat
-repeat-same f g h zero x = refl
-repeat-same f g h (suc n) x = repeat-same f g h n (f x) ∙ ap (repeat n g) (h x)
+repeat_same f g h zero x = refl
+repeat_same f g h (suc n) x = repeat_same f g h n (f x) ∙ ap (repeat n g) (h x)
 
-module _ (s : List ℕ) (no-five : NoFive s) (q labels : ℕ) where
+module _ (s : List ℕ) (no_five : NoFive s) (q labels : ℕ) where
   -- a line is the same by d, its number behind c, or by any and the last one there
-  ends-alike : (at x y z : ℕ) (c d : Number) → next_number s (next_number s c 44) 10 ≡ Bad
+  ends_alike : (at x y z : ℕ) (c d : Number) → next_number s (next_number s c 44) 10 ≡ Bad
       → (let any = else_number s d c 44 in let last = either d (next_number s any 10) in let xs = numbers x y z (value_of any) (value_of last) in
       closed s at last (move_fits xs q labels) xs)
       ≡ (let xs = numbers x y z 0 (value_of d) in closed s at d (four_fits xs q labels) xs)
-  ends-alike at x y z c (Value v i) h =
+  ends_alike at x y z c (Value v i) h =
       ap (λ t. judged s at i t (numbers x y z 0 v))
-      (tests_same (ltb x q) (ltb y labels) (ltb z labels) (ltb 0 labels) (ltb v q) (zero-fits y labels))
-  ends-alike at x y z c Bad h = rw h
+      (tests_same (ltb x q) (ltb y labels) (ltb z labels) (ltb 0 labels) (ltb v q) (zero_fits y labels))
+  ends_alike at x y z c Bad h = rw h
 
-  pub line-as-before : (l : Line) → move_line s l move_key q labels ≡ four_line s l move_key q labels
+  pub line_as_before : (l : Line) → move_line s l move_key q labels ≡ four_line s l move_key q labels
   unfolding move_line four_line
-  line-as-before (line.Fault f) = refl
-  line-as-before (line.Numbers xs c) =
+  line_as_before (line.Fault f) = refl
+  line_as_before (line.Numbers xs c) =
       let a = next_number s (key_at s c.at move_key) 44 in let b = next_number s a 44 in let z = next_number s b 44 in
-      ends-alike c.at (value_of a) (value_of b) (value_of z) z (next_number s z 10) (no-five.none c.at)
+      ends_alike c.at (value_of a) (value_of b) (value_of z) z (next_number s z 10) (no_five.none c.at)
 
-  step-as-before : (x : Filling MoveBlock) → move_step s q labels x ≡ four_step s q labels x
-  step-as-before x = rw (line-as-before x.block.line)
+  step_as_before : (x : Filling MoveBlock) → move_step s q labels x ≡ four_step s q labels x
+  step_as_before x = rw (line_as_before x.block.line)
 
-  pub block-as-before : (l : Line) (n : ℕ) → move_block s l n q labels ≡ four_block s l n q labels
+  pub block_as_before : (l : Line) (n : ℕ) → move_block s l n q labels ≡ four_block s l n q labels
   unfolding move_block four_block
-  block-as-before l n = ap (λ (x : Filling MoveBlock). x.block) (repeat-same (move_step s q labels) (four_step s q labels) step-as-before n _)
+  block_as_before l n = ap (λ (x : Filling MoveBlock). x.block) (repeat_same (move_step s q labels) (four_step s q labels) step_as_before n _)
 
   -- any of a line of four numbers is 0
-  judged-zero : (at i : ℕ) (fit : Bool) (x y z v : ℕ) → (numbers_of (judged s at i fit (numbers x y z 0 v))).fourth ≡ 0
-  judged-zero at i true x y z v = refl
-  judged-zero at i false x y z v = refl
+  judged_zero : (at i : ℕ) (fit : Bool) (x y z v : ℕ) → (numbers_of (judged s at i fit (numbers x y z 0 v))).fourth ≡ 0
+  judged_zero at i true x y z v = refl
+  judged_zero at i false x y z v = refl
 
-  closed-zero : (at x y z : ℕ) (d : Number)
+  closed_zero : (at x y z : ℕ) (d : Number)
       → (numbers_of (let xs = numbers x y z 0 (value_of d) in closed s at d (four_fits xs q labels) xs)).fourth ≡ 0
-  closed-zero at x y z Bad = refl
-  closed-zero at x y z (Value v i) = judged-zero at i (four_fits (numbers x y z 0 v) q labels) x y z v
+  closed_zero at x y z Bad = refl
+  closed_zero at x y z (Value v i) = judged_zero at i (four_fits (numbers x y z 0 v) q labels) x y z v
 
-  four-zero : (l : Line) → (numbers_of (four_line s l move_key q labels)).fourth ≡ 0
+  four_zero : (l : Line) → (numbers_of (four_line s l move_key q labels)).fourth ≡ 0
   unfolding four_line
-  four-zero (line.Fault f) = refl
-  four-zero (line.Numbers xs c) =
+  four_zero (line.Fault f) = refl
+  four_zero (line.Numbers xs c) =
       let a = next_number s (key_at s c.at move_key) 44 in let b = next_number s a 44 in let z = next_number s b 44 in
-      closed-zero c.at (value_of a) (value_of b) (value_of z) (next_number s z 10)
+      closed_zero c.at (value_of a) (value_of b) (value_of z) (next_number s z 10)
 
-  move-zero : (l : Line) → (numbers_of (move_line s l move_key q labels)).fourth ≡ 0
-  move-zero l = ap (λ x. (numbers_of x).fourth) (line-as-before l) ∙ four-zero l
+  move_zero : (l : Line) → (numbers_of (move_line s l move_key q labels)).fourth ≡ 0
+  move_zero l = ap (λ x. (numbers_of x).fourth) (line_as_before l) ∙ four_zero l
 
-  pub block-fours : (l : Line) (n i : ℕ) → get_or (move_block s l n q labels).any i 0 ≡ 0
+  pub block_fours : (l : Line) (n i : ℕ) → get_or (move_block s l n q labels).any i 0 ≡ 0
   unfolding move_block
-  block-fours l n =
-      repeat-keeps (λ (x : Filling MoveBlock). (i : ℕ) → get_or x.block.any i 0 ≡ 0) (move_step s q labels)
-      (λ x h. all_set (λ y. y ≡ 0) 0 x.block.any x.next _ h (move-zero x.block.line))
+  block_fours l n =
+      repeat_keeps (λ (x : Filling MoveBlock). (i : ℕ) → get_or x.block.any i 0 ≡ 0) (move_step s q labels)
+      (λ x h. all_set (λ y. y ≡ 0) 0 x.block.any x.next _ h (move_zero x.block.line))
       n _ (all_same (λ y. y ≡ 0) 0 refl 64)
 
 pub record Fours (a : Automaton) : Type 0 where
@@ -165,53 +165,53 @@ pub record FourPlan (p : Plan) : Type 0 where
   pub hard : Fours p.hard
   pub softs : (k : ℕ) → Fours (soft p k)
 
-no-automaton-fours : Fours no_automaton
-no-automaton-fours = record { none = all_same (λ y. y ≡ 0) 0 refl 64 }
+no_automaton_fours : Fours no_automaton
+no_automaton_fours = record { none = all_same (λ y. y ≡ 0) 0 refl 64 }
 
-no-softs-fours : (k : ℕ) → Fours (get_or (replicate 8 no_automaton) k no_automaton)
-no-softs-fours = all_same Fours no_automaton no-automaton-fours 8
+no_softs_fours : (k : ℕ) → Fours (get_or (replicate 8 no_automaton) k no_automaton)
+no_softs_fours = all_same Fours no_automaton no_automaton_fours 8
 
-no-plan-fours : FourPlan no_plan
-no-plan-fours = record { hard = no-automaton-fours; softs = no-softs-fours }
+no_plan_fours : FourPlan no_plan
+no_plan_fours = record { hard = no_automaton_fours; softs = no_softs_fours }
 
-module _ (s : List ℕ) (no-five : NoFive s) where
-  automaton-fours : (l : Line) (q labels : ℕ) → Fours (automaton_block s l q labels).automaton
+module _ (s : List ℕ) (no_five : NoFive s) where
+  automaton_fours : (l : Line) (q labels : ℕ) → Fours (automaton_block s l q labels).automaton
   unfolding automaton_block
-  automaton-fours l q labels =
+  automaton_fours l q labels =
       let count = line_of_one s (line_of_one s (line_of_one s l first_key 0 q) accept_key 0 (2 ^ q)) moves_key 0 65 in
-      record { none = block-fours s no-five q labels count (first_of count) }
+      record { none = block_fours s no_five q labels count (first_of count) }
 
-  hard-fours : (l : Line) (labels : ℕ) → Fours (hard_block s l labels).automaton
+  hard_fours : (l : Line) (labels : ℕ) → Fours (hard_block s l labels).automaton
   unfolding hard_block
-  hard-fours l labels = automaton-fours _ _ labels
+  hard_fours l labels = automaton_fours _ _ labels
 
-  soft-fours : (l : Line) (labels : ℕ) → Fours (soft_block s l labels).automaton
+  soft_fours : (l : Line) (labels : ℕ) → Fours (soft_block s l labels).automaton
   unfolding soft_block
-  soft-fours l labels = automaton-fours _ _ labels
+  soft_fours l labels = automaton_fours _ _ labels
 
-  softs-fours : (l : Line) (n labels k : ℕ) → Fours (get_or (soft_blocks s l n labels).soft k no_automaton)
+  softs_fours : (l : Line) (n labels k : ℕ) → Fours (get_or (soft_blocks s l n labels).soft k no_automaton)
   unfolding soft_blocks
-  softs-fours l n labels =
-      repeat-keeps (λ (x : Filling SoftBlocks). (k : ℕ) → Fours (get_or x.block.soft k no_automaton)) (soft_step s labels)
-      (λ x h. all_set Fours no_automaton x.block.soft x.next _ h (soft-fours x.block.line labels))
-      n _ no-softs-fours
+  softs_fours l n labels =
+      repeat_keeps (λ (x : Filling SoftBlocks). (k : ℕ) → Fours (get_or x.block.soft k no_automaton)) (soft_step s labels)
+      (λ x h. all_set Fours no_automaton x.block.soft x.next _ h (soft_fours x.block.line labels))
+      n _ no_softs_fours
 
-  draft-fours : FourPlan (draft_of s).plan
+  draft_fours : FourPlan (draft_of s).plan
   unfolding draft_of
-  draft-fours = record { hard = hard-fours _ _; softs = softs-fours _ _ _ }
+  draft_fours = record { hard = hard_fours _ _; softs = softs_fours _ _ _ }
 
-  answer-fours : (l : Line) (p : Plan) → FourPlan p → FourPlan (answer l p).plan
+  answer_fours : (l : Line) (p : Plan) → FourPlan p → FourPlan (answer l p).plan
   unfolding answer
-  answer-fours (line.Fault f) p h = no-plan-fours
-  answer-fours (line.Numbers xs c) p h = h
+  answer_fours (line.Fault f) p h = no_plan_fours
+  answer_fours (line.Numbers xs c) p h = h
 
-  pub read-fours : FourPlan (read_plan s).plan
+  pub read_fours : FourPlan (read_plan s).plan
   unfolding read_plan
-  read-fours = by-test (ltb 60000 (length s))
+  read_fours = by_test (ltb 60000 (length s))
     where
-      by-test : (t : Bool) → FourPlan (cond t (refuse PlanTooLong) (answer (draft_of s).line (draft_of s).plan)).plan
-      by-test true = no-plan-fours
-      by-test false = answer-fours (draft_of s).line (draft_of s).plan draft-fours
+      by_test : (t : Bool) → FourPlan (cond t (refuse PlanTooLong) (answer (draft_of s).line (draft_of s).plan)).plan
+      by_test true = no_plan_fours
+      by_test false = answer_fours (draft_of s).line (draft_of s).plan draft_fours
 
 abbrev pub fits_before : Automaton → ℕ → ℕ → ℕ → Bool
 fits_before a x q i =
@@ -222,7 +222,7 @@ pub record AsBefore (p : Plan) : Type 0 where
   pub hard : (x q i : ℕ) → fits p.hard x q i ≡ fits_before p.hard x q i
   pub softs : (k x q i : ℕ) → fits (soft p k) x q i ≡ fits_before (soft p k) x q i
 
-pub answered-as-before : (s : List ℕ) → NoFive s → AsBefore (read_plan s).plan
-answered-as-before s no-five =
-    let p = (read_plan s).plan in let f = read-fours s no-five in
-    record { hard = fits-none p.hard f.hard.none; softs = λ k. fits-none (soft p k) (f.softs k).none }
+pub answered_as_before : (s : List ℕ) → NoFive s → AsBefore (read_plan s).plan
+answered_as_before s no_five =
+    let p = (read_plan s).plan in let f = read_fours s no_five in
+    record { hard = fits_none p.hard f.hard.none; softs = λ k. fits_none (soft p k) (f.softs k).none }

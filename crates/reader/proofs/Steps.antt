@@ -17,7 +17,7 @@ use Rattle.reader.specs.declared.block.RoadBlock.{RoadBlock}
 use Rattle.reader.specs.declared.block.MoveBlock.{MoveBlock}
 use Rattle.reader.specs.declared.block.SoftBlock.{SoftBlock}
 use Rattle.reader.specs.declared.block.SoftBlocks.{SoftBlocks}
-use Rattle.reader.proofs.Filling.{rest, rest-start}
+use Rattle.reader.proofs.Filling.{rest, rest_start}
 
 abbrev pub labels_in : Line → List ℕ → LabelBlock
 labels_in l b = record { line = l; labels = b }
@@ -32,17 +32,17 @@ abbrev pub softs_in : Line → List Automaton → List ℕ → SoftBlocks
 softs_in l a b = record { line = l; soft = a; weights = b }
 
 module _ (s : List ℕ) (bound : ℕ) where
-  pub labels-start : (l : Line) (n : ℕ) → label_block s l n bound ≡ rest n (label_step s bound) 0 (labels_in l (replicate 128 0))
+  pub labels_start : (l : Line) (n : ℕ) → label_block s l n bound ≡ rest n (label_step s bound) 0 (labels_in l (replicate 128 0))
   unfolding label_block
-  labels-start l n = rest-start n (label_step s bound) _
+  labels_start l n = rest_start n (label_step s bound) _
 
   pub label-step : (i : ℕ) (l r : Line) (b : List ℕ) (x : ℕ) → r ≡ line_of_one s l label_key 0 bound → x ≡ first_of r
       → label_step s bound (record { next = i; block = labels_in l b }) ≡ record { next = i + 1; block = labels_in r (set b i x) }
   label-step i l r b x p q = rw (q, p)
 
-  pub roads-start : (l : Line) (n : ℕ) → road_block s l n bound ≡ rest n (road_step s bound) 0 (roads_in l (replicate 1024 0) (replicate 1024 0))
+  pub roads_start : (l : Line) (n : ℕ) → road_block s l n bound ≡ rest n (road_step s bound) 0 (roads_in l (replicate 1024 0) (replicate 1024 0))
   unfolding road_block
-  roads-start l n = rest-start n (road_step s bound) _
+  roads_start l n = rest_start n (road_step s bound) _
 
   pub road-step : (i : ℕ) (l r : Line) (a b : List ℕ) (xs : Numbers)
       → r ≡ road_line s l road_key bound (earlier (roads_in l a b) i) → xs ≡ numbers_of r
@@ -50,10 +50,10 @@ module _ (s : List ℕ) (bound : ℕ) where
   road-step i l r a b xs p q = rw (q, p)
 
 module _ (s : List ℕ) (states labels : ℕ) where
-  pub moves-start : (l : Line) (n : ℕ)
+  pub moves_start : (l : Line) (n : ℕ)
       → move_block s l n states labels ≡ rest n (move_step s states labels) 0 (moves_in l (replicate 64 0) (replicate 64 0) (replicate 64 0) (replicate 64 0) (replicate 64 0))
   unfolding move_block
-  moves-start l n = rest-start n (move_step s states labels) _
+  moves_start l n = rest_start n (move_step s states labels) _
 
   pub move-step : (i : ℕ) (l r : Line) (a b c d e : List ℕ) (xs : Numbers) → r ≡ move_line s l move_key states labels → xs ≡ numbers_of r
       → move_step s states labels (record { next = i; block = moves_in l a b c d e })
@@ -64,10 +64,10 @@ module _ (s : List ℕ) (states labels : ℕ) where
   move-step i l r a b c d e xs p q = rw (q, p)
 
 module _ (s : List ℕ) (labels : ℕ) where
-  pub softs-start : (l : Line) (n : ℕ) (none : Automaton) → none ≡ no_automaton
+  pub softs_start : (l : Line) (n : ℕ) (none : Automaton) → none ≡ no_automaton
       → soft_blocks s l n labels ≡ rest n (soft_step s labels) 0 (softs_in l (replicate 8 none) (replicate 8 0))
   unfolding soft_blocks
-  softs-start l n none e = rw e (rest-start n (soft_step s labels) _)
+  softs_start l n none e = rw e (rest_start n (soft_step s labels) _)
 
   pub soft-step : (i : ℕ) (l : Line) (a : List Automaton) (b : List ℕ) (r : SoftBlock) → r ≡ soft_block s l labels
       → soft_step s labels (record { next = i; block = softs_in l a b })

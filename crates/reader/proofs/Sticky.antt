@@ -21,15 +21,15 @@ use Rattle.reader.specs.declared.block.LabelBlock.{LabelBlock}
 use Rattle.reader.specs.declared.block.RoadBlock.{RoadBlock}
 use Rattle.reader.specs.declared.block.MoveBlock.{MoveBlock}
 use Rattle.reader.specs.declared.block.SoftBlocks.{SoftBlocks}
-use Rattle.text.proofs.Newlines.{line-least, line-most}
-use Rattle.text.proofs.Lines.{before, here, Led, one-led}
-use Rattle.reader.proofs.Lines.{road-led, move-led}
+use Rattle.text.proofs.Newlines.{line_least, line_most}
+use Rattle.text.proofs.Lines.{before, here, Led, one_led}
+use Rattle.reader.proofs.Lines.{road_led, move_led}
 
 -- what f keeps, repeating f keeps
-pub repeat-keeps : {S : Type 0} (P : S → Type 0) (f : S → S) → ((x : S) → P x → P (f x)) → (n : ℕ) (x : S) → P x → P (repeat n f x)
+pub repeat_keeps : {S : Type 0} (P : S → Type 0) (f : S → S) → ((x : S) → P x → P (f x)) → (n : ℕ) (x : S) → P x → P (repeat n f x)
 unfolding repeat
-repeat-keeps P f h zero x p = p
-repeat-keeps P f h (suc n) x p = repeat-keeps P f h n (f x) (h x p)
+repeat_keeps P f h zero x p = p
+repeat_keeps P f h (suc n) x p = repeat_keeps P f h n (f x) (h x p)
 
 -- P is kept by a line of every kind
 pub record Sticky (s : List ℕ) (P : Line → Type 0) : Type 0 where
@@ -38,39 +38,39 @@ pub record Sticky (s : List ℕ) (P : Line → Type 0) : Type 0 where
   pub move : (l : Line) (key : List ℕ) (q labels : ℕ) → P l → P (move_line s l key q labels)
 
 module _ (s : List ℕ) (P : Line → Type 0) (k : Sticky s P) where
-  pub labels-keep : (l : Line) (n bound : ℕ) → P l → P (label_block s l n bound).line
+  pub labels_keep : (l : Line) (n bound : ℕ) → P l → P (label_block s l n bound).line
   unfolding label_block
-  labels-keep l n bound = repeat-keeps (λ (x : Filling LabelBlock). P x.block.line) (label_step s bound) (λ x. k.one x.block.line _ 0 bound) n _
+  labels_keep l n bound = repeat_keeps (λ (x : Filling LabelBlock). P x.block.line) (label_step s bound) (λ x. k.one x.block.line _ 0 bound) n _
 
-  pub roads-keep : (l : Line) (n bound : ℕ) → P l → P (road_block s l n bound).line
+  pub roads_keep : (l : Line) (n bound : ℕ) → P l → P (road_block s l n bound).line
   unfolding road_block
-  roads-keep l n bound = repeat-keeps (λ (x : Filling RoadBlock). P x.block.line) (road_step s bound) (λ x. k.road x.block.line _ bound _) n _
+  roads_keep l n bound = repeat_keeps (λ (x : Filling RoadBlock). P x.block.line) (road_step s bound) (λ x. k.road x.block.line _ bound _) n _
 
-  pub moves-keep : (l : Line) (n q labels : ℕ) → P l → P (move_block s l n q labels).line
+  pub moves_keep : (l : Line) (n q labels : ℕ) → P l → P (move_block s l n q labels).line
   unfolding move_block
-  moves-keep l n q labels = repeat-keeps (λ (x : Filling MoveBlock). P x.block.line) (move_step s q labels) (λ x. k.move x.block.line _ q labels) n _
+  moves_keep l n q labels = repeat_keeps (λ (x : Filling MoveBlock). P x.block.line) (move_step s q labels) (λ x. k.move x.block.line _ q labels) n _
 
-  pub automaton-keeps : (l : Line) (q labels : ℕ) → P l → P (automaton_block s l q labels).line
+  pub automaton_keeps : (l : Line) (q labels : ℕ) → P l → P (automaton_block s l q labels).line
   unfolding automaton_block
-  automaton-keeps l q labels p =
+  automaton_keeps l q labels p =
       let first = line_of_one s l first_key 0 q in
       let accept = line_of_one s first accept_key 0 (2 ^ q) in
       let count = line_of_one s accept moves_key 0 65 in
-      moves-keep count (first_of count) q labels (k.one accept moves_key 0 65 (k.one first accept_key 0 (2 ^ q) (k.one l first_key 0 q p)))
+      moves_keep count (first_of count) q labels (k.one accept moves_key 0 65 (k.one first accept_key 0 (2 ^ q) (k.one l first_key 0 q p)))
 
-  pub hard-keeps : (l : Line) (labels : ℕ) → P l → P (hard_block s l labels).line
+  pub hard_keeps : (l : Line) (labels : ℕ) → P l → P (hard_block s l labels).line
   unfolding hard_block
-  hard-keeps l labels p = automaton-keeps (line_of_one s l hard_key 1 17) _ labels (k.one l hard_key 1 17 p)
+  hard_keeps l labels p = automaton_keeps (line_of_one s l hard_key 1 17) _ labels (k.one l hard_key 1 17 p)
 
-  pub soft-keeps : (l : Line) (labels : ℕ) → P l → P (soft_block s l labels).line
+  pub soft_keeps : (l : Line) (labels : ℕ) → P l → P (soft_block s l labels).line
   unfolding soft_block
-  soft-keeps l labels p =
+  soft_keeps l labels p =
       let states = line_of_one s l soft_key 1 9 in
-      automaton-keeps (weight_line s states) _ labels (k.one states weight_key _ _ (k.one l soft_key 1 9 p))
+      automaton_keeps (weight_line s states) _ labels (k.one states weight_key _ _ (k.one l soft_key 1 9 p))
 
-  pub softs-keep : (l : Line) (n labels : ℕ) → P l → P (soft_blocks s l n labels).line
+  pub softs_keep : (l : Line) (n labels : ℕ) → P l → P (soft_blocks s l n labels).line
   unfolding soft_blocks
-  softs-keep l n labels = repeat-keeps (λ (x : Filling SoftBlocks). P x.block.line) (soft_step s labels) (λ x. soft-keeps x.block.line labels) n _
+  softs_keep l n labels = repeat_keeps (λ (x : Filling SoftBlocks). P x.block.line) (soft_step s labels) (λ x. soft_keeps x.block.line labels) n _
 
 -- a fault, where there is one, is of a line of s, or of the line behind them
 abbrev pub Placed : List ℕ → Line → Type 0
@@ -78,48 +78,48 @@ Placed s (line.Numbers xs c) = Unit {0}
 Placed s (line.Fault f) = (1 ≤ fault.line_of f) × (fault.line_of f ≤ length s + 1)
 
 module _ (s : List ℕ) where
-  led-placed : (Q : Numbers → Type 0) (l r : Line) → Led s Q l r → Placed s l → Placed s r
-  led-placed Q l (line.Numbers xs c) g p = tt
-  led-placed Q l (line.Fault f) (before e) p = rw e at p
-  led-placed Q l (line.Fault f) (here at e) p = rw e (line-least s at, line-most s at)
+  led_placed : (Q : Numbers → Type 0) (l r : Line) → Led s Q l r → Placed s l → Placed s r
+  led_placed Q l (line.Numbers xs c) g p = tt
+  led_placed Q l (line.Fault f) (before e) p = rw e at p
+  led_placed Q l (line.Fault f) (here at e) p = rw e (line_least s at, line_most s at)
 
   placed : Sticky s (Placed s)
   placed = record {
-    one = λ l key low bound. led-placed _ l (line_of_one s l key low bound) (one-led s l key low bound);
-    road = λ l key bound again. led-placed _ l (road_line s l key bound again) (road-led s l key bound again);
-    move = λ l key q labels. led-placed _ l (move_line s l key q labels) (move-led s l key q labels);
+    one = λ l key low bound. led_placed _ l (line_of_one s l key low bound) (one_led s l key low bound);
+    road = λ l key bound again. led_placed _ l (road_line s l key bound again) (road_led s l key bound again);
+    move = λ l key q labels. led_placed _ l (move_line s l key q labels) (move_led s l key q labels);
   }
 
-  finish-placed : (l : Line) → Placed s l → Placed s (finish s l)
+  finish_placed : (l : Line) → Placed s l → Placed s (finish s l)
   unfolding finish
-  finish-placed (line.Fault f) p = p
-  finish-placed (line.Numbers xs c) p = by-test (ltb c.at (length s))
+  finish_placed (line.Fault f) p = p
+  finish_placed (line.Numbers xs c) p = by_test (ltb c.at (length s))
     where
-      by-test : (t : Bool) → Placed s (cond t (line.Fault (Form (line_at s c.at))) (line.Numbers xs c))
-      by-test true = (line-least s c.at, line-most s c.at)
-      by-test false = tt
+      by_test : (t : Bool) → Placed s (cond t (line.Fault (Form (line_at s c.at))) (line.Numbers xs c))
+      by_test true = (line_least s c.at, line_most s c.at)
+      by_test false = tt
 
-  map-placed : Placed s (map_of s).line
+  map_placed : Placed s (map_of s).line
   unfolding map_of
-  map-placed =
+  map_placed =
       let tour = line_of_one s top tour_key 1 2 in
       let marks = line_of_one s tour marks_key 0 9 in
       let places = line_of_one s marks places_key 1 129 in
       let labels = label_block s places (first_of places) (2 ^ first_of marks) in
       let start = line_of_one s labels.line start_key 0 (first_of places) in
       let count = line_of_one s start roads_key 0 1025 in
-      roads-keep s (Placed s) placed count (first_of count) (first_of places)
+      roads_keep s (Placed s) placed count (first_of count) (first_of places)
       (placed.one start roads_key 0 1025
       (placed.one labels.line start_key 0 (first_of places)
-      (labels-keep s (Placed s) placed places (first_of places) (2 ^ first_of marks)
+      (labels_keep s (Placed s) placed places (first_of places) (2 ^ first_of marks)
       (placed.one marks places_key 1 129 (placed.one tour marks_key 0 9 (placed.one top tour_key 1 2 tt))))))
 
-  pub draft-placed : Placed s (draft_of s).line
+  pub draft_placed : Placed s (draft_of s).line
   unfolding draft_of
-  draft-placed =
+  draft_placed =
       let bound = 2 ^ (map_of s).marks in
       let hard = hard_block s (map_of s).line bound in
       let count = line_of_one s hard.line rules_key 0 9 in
-      finish-placed (soft_blocks s count (first_of count) bound).line
-      (softs-keep s (Placed s) placed count (first_of count) bound
-      (placed.one hard.line rules_key 0 9 (hard-keeps s (Placed s) placed (map_of s).line bound map-placed)))
+      finish_placed (soft_blocks s count (first_of count) bound).line
+      (softs_keep s (Placed s) placed count (first_of count) bound
+      (placed.one hard.line rules_key 0 9 (hard_keeps s (Placed s) placed (map_of s).line bound map_placed)))

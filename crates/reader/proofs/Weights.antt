@@ -4,13 +4,13 @@
 --                       == `weight_line`, `soft_block`, `soft_step`, `soft_blocks`, `draft_of` and `read_plan`, with weights of at least 1
 --   weight_at s at       == the number of the weight line at index `at` of s; Bad if none is there
 --   Zero s l            == l is the range fault of a line `weight=0` of s
---   line-narrowed, soft-narrowed, softs-narrowed, draft-narrowed
+--   line_narrowed, soft_narrowed, softs_narrowed, draft_narrowed
 --                       == lines, blocks and the whole draft are what they were, or their fault was such a one
 --   Turned s r          == the answer r turns s away for such a line
---   read-narrowed       == every file reads as before, or was turned away so
+--   read_narrowed       == every file reads as before, or was turned away so
 --   NoZero s            == nowhere in s stands a line `weight=0`
---   read-as-before      == then it reads as before
---   passed-as-before    == so does every file that passed before
+--   read_as_before      == then it reads as before
+--   passed_as_before    == so does every file that passed before
 use mathlib.Core.Path.{◌≡◌, refl, sym, ap, ◌∙◌}
 use mathlib.Core.Bool.{Bool, true, false, cond}
 use mathlib.Core.List.{List}
@@ -41,7 +41,7 @@ use Rattle.reader.specs.declared.block.SoftBlocks.{SoftBlocks}
 use Rattle.reader.specs.declared.Draft.{Draft}
 use Rattle.reader.specs.declared.Outcome.TheVariants as outcome
 use Rattle.reader.specs.declared.Reading.{Reading}
-use Rattle.reader.proofs.Sticky.{Sticky, automaton-keeps}
+use Rattle.reader.proofs.Sticky.{Sticky, automaton_keeps}
 
 -- reading as it was
 abbrev pub weight_before : List ℕ → Line → Line
@@ -109,39 +109,39 @@ pub record Zero (s : List ℕ) (l : Line) : Type 0 where
 
 module _ (s : List ℕ) where
   -- a number from 1 on is in range as it was
-  judged-alike : (at v i : ℕ) → weight_at s at ≡ Value v i
+  judged_alike : (at v i : ℕ) → weight_at s at ≡ Value v i
       → (judged s at i (within v 0 4000001) (pair v 0) ≡ judged s at i (within v 1 4000001) (pair v 0))
       ⊎ Zero s (judged s at i (within v 1 4000001) (pair v 0))
   unfolding within
-  judged-alike at zero i e = inr (record { index = at; next = i; written = e; fault = refl })
-  judged-alike at (suc v) i e = inl (rw (le-ltb (suc v) 0 (omega arith), le-ltb (suc v) 1 (omega arith)))
+  judged_alike at zero i e = inr (record { index = at; next = i; written = e; fault = refl })
+  judged_alike at (suc v) i e = inl (rw (le-ltb (suc v) 0 (omega arith), le-ltb (suc v) 1 (omega arith)))
 
-  closed-alike : (at : ℕ) (a : Number) → weight_at s at ≡ a
+  closed_alike : (at : ℕ) (a : Number) → weight_at s at ≡ a
       → (closed s at a (within (value_of a) 0 4000001) (pair (value_of a) 0) ≡ closed s at a (within (value_of a) 1 4000001) (pair (value_of a) 0))
       ⊎ Zero s (closed s at a (within (value_of a) 1 4000001) (pair (value_of a) 0))
-  closed-alike at Bad e = inl refl
-  closed-alike at (Value v i) e = judged-alike at v i e
+  closed_alike at Bad e = inl refl
+  closed_alike at (Value v i) e = judged_alike at v i e
 
-  pub line-narrowed : (l : Line) → (weight_line s l ≡ weight_before s l) ⊎ Zero s (weight_before s l)
+  pub line_narrowed : (l : Line) → (weight_line s l ≡ weight_before s l) ⊎ Zero s (weight_before s l)
   unfolding line_of_one
-  line-narrowed (line.Fault f) = inl refl
-  line-narrowed (line.Numbers xs c) = closed-alike c.at (weight_at s c.at) refl
+  line_narrowed (line.Fault f) = inl refl
+  line_narrowed (line.Numbers xs c) = closed_alike c.at (weight_at s c.at) refl
 
   -- such a fault stays
-  behind-zero : {l r : Line} → Zero s l → ((f : Fault) → l ≡ line.Fault f → r ≡ line.Fault f) → Zero s r
-  behind-zero z h = record { index = z.index; next = z.next; written = z.written; fault = h _ z.fault }
+  behind_zero : {l r : Line} → Zero s l → ((f : Fault) → l ≡ line.Fault f → r ≡ line.Fault f) → Zero s r
+  behind_zero z h = record { index = z.index; next = z.next; written = z.written; fault = h _ z.fault }
 
   stays : Sticky s (Zero s)
   unfolding line_of_one road_line move_line
   stays = record {
-    one = λ l key low bound z. behind-zero z (λ f e. rw e);
-    road = λ l key bound again z. behind-zero z (λ f e. rw e);
-    move = λ l key q labels z. behind-zero z (λ f e. rw e);
+    one = λ l key low bound z. behind_zero z (λ f e. rw e);
+    road = λ l key bound again z. behind_zero z (λ f e. rw e);
+    move = λ l key q labels z. behind_zero z (λ f e. rw e);
   }
 
-  pub soft-narrowed : (l : Line) (labels : ℕ) → (soft_block s l labels ≡ soft_before s l labels) ⊎ Zero s (soft_before s l labels).line
+  pub soft_narrowed : (l : Line) (labels : ℕ) → (soft_block s l labels ≡ soft_before s l labels) ⊎ Zero s (soft_before s l labels).line
   unfolding soft_block soft_before
-  soft-narrowed l labels = by (line-narrowed states)
+  soft_narrowed l labels = by (line_narrowed states)
     where
       states : Line
       states = line_of_one s l soft_key 1 9
@@ -149,47 +149,47 @@ module _ (s : List ℕ) where
       by : (weight_line s states ≡ weight_before s states) ⊎ Zero s (weight_before s states)
           → (soft_block s l labels ≡ soft_before s l labels) ⊎ Zero s (soft_before s l labels).line
       by (inl e) = inl (rw e)
-      by (inr z) = inr (automaton-keeps s (Zero s) stays (weight_before s states) (first_of states) labels z)
+      by (inr z) = inr (automaton_keeps s (Zero s) stays (weight_before s states) (first_of states) labels z)
 
-  soft-zero : (l : Line) (labels : ℕ) → Zero s l → Zero s (soft_before s l labels).line
+  soft_zero : (l : Line) (labels : ℕ) → Zero s l → Zero s (soft_before s l labels).line
   unfolding soft_before
-  soft-zero l labels z =
+  soft_zero l labels z =
       let states = line_of_one s l soft_key 1 9 in
-      automaton-keeps s (Zero s) stays (weight_before s states) (first_of states) labels (stays.one states weight_key 1 4000001 (stays.one l soft_key 1 9 z))
+      automaton_keeps s (Zero s) stays (weight_before s states) (first_of states) labels (stays.one states weight_key 1 4000001 (stays.one l soft_key 1 9 z))
 
   -- two readings of soft rules, the later and the earlier one
   abbrev Alike : Filling SoftBlocks → Filling SoftBlocks → Type 0
   Alike x y = (x ≡ y) ⊎ Zero s y.block.line
 
-  step-narrowed : (labels : ℕ) (x y : Filling SoftBlocks) → Alike x y → Alike (soft_step s labels x) (step_before s labels y)
-  step-narrowed labels x y (inl e) = by (soft-narrowed y.block.line labels)
+  step_narrowed : (labels : ℕ) (x y : Filling SoftBlocks) → Alike x y → Alike (soft_step s labels x) (step_before s labels y)
+  step_narrowed labels x y (inl e) = by (soft_narrowed y.block.line labels)
     where
       by : (soft_block s y.block.line labels ≡ soft_before s y.block.line labels) ⊎ Zero s (soft_before s y.block.line labels).line
           → Alike (soft_step s labels x) (step_before s labels y)
       by (inl d) = inl (rw (e, d))
       by (inr z) = inr z
-  step-narrowed labels x y (inr z) = inr (soft-zero y.block.line labels z)
+  step_narrowed labels x y (inr z) = inr (soft_zero y.block.line labels z)
 
-  repeat-narrowed : (labels n : ℕ) (x y : Filling SoftBlocks) → Alike x y → Alike (repeat n (soft_step s labels) x) (repeat n (step_before s labels) y)
+  repeat_narrowed : (labels n : ℕ) (x y : Filling SoftBlocks) → Alike x y → Alike (repeat n (soft_step s labels) x) (repeat n (step_before s labels) y)
   unfolding repeat
-  repeat-narrowed labels zero x y a = a
-  repeat-narrowed labels (suc n) x y a = repeat-narrowed labels n (soft_step s labels x) (step_before s labels y) (step-narrowed labels x y a)
+  repeat_narrowed labels zero x y a = a
+  repeat_narrowed labels (suc n) x y a = repeat_narrowed labels n (soft_step s labels x) (step_before s labels y) (step_narrowed labels x y a)
 
-  pub softs-narrowed : (l : Line) (n labels : ℕ) → (soft_blocks s l n labels ≡ softs_before s l n labels) ⊎ Zero s (softs_before s l n labels).line
+  pub softs_narrowed : (l : Line) (n labels : ℕ) → (soft_blocks s l n labels ≡ softs_before s l n labels) ⊎ Zero s (softs_before s l n labels).line
   unfolding soft_blocks softs_before
-  softs-narrowed l n labels = by (repeat-narrowed labels n _ _ (inl refl))
+  softs_narrowed l n labels = by (repeat_narrowed labels n _ _ (inl refl))
     where
       by : {x y : Filling SoftBlocks} → Alike x y → (x.block ≡ y.block) ⊎ Zero s y.block.line
       by (inl e) = inl (ap (λ (x : Filling SoftBlocks). x.block) e)
       by (inr z) = inr z
 
-  finish-zero : (l : Line) → Zero s l → Zero s (finish s l)
+  finish_zero : (l : Line) → Zero s l → Zero s (finish s l)
   unfolding finish
-  finish-zero l z = behind-zero z (λ f e. rw e)
+  finish_zero l z = behind_zero z (λ f e. rw e)
 
-  pub draft-narrowed : (draft_of s ≡ draft_before s) ⊎ Zero s (draft_before s).line
+  pub draft_narrowed : (draft_of s ≡ draft_before s) ⊎ Zero s (draft_before s).line
   unfolding draft_of draft_before
-  draft-narrowed = by (softs-narrowed count (first_of count) bound)
+  draft_narrowed = by (softs_narrowed count (first_of count) bound)
     where
       bound : ℕ
       bound = 2 ^ (map_of s).marks
@@ -200,7 +200,7 @@ module _ (s : List ℕ) where
       by : (soft_blocks s count (first_of count) bound ≡ softs_before s count (first_of count) bound) ⊎ Zero s (softs_before s count (first_of count) bound).line
           → (draft_of s ≡ draft_before s) ⊎ Zero s (draft_before s).line
       by (inl e) = inl (rw e)
-      by (inr z) = inr (finish-zero (softs_before s count (first_of count) bound).line z)
+      by (inr z) = inr (finish_zero (softs_before s count (first_of count) bound).line z)
 
 pub record Turned (s : List ℕ) (r : Reading) : Type 0 where
   pub index : ℕ
@@ -208,13 +208,13 @@ pub record Turned (s : List ℕ) (r : Reading) : Type 0 where
   pub written : weight_at s index ≡ Value 0 next
   pub told : r ≡ refuse (refusal.Line (Range (line_at s index)))
 
-answer-turned : (s : List ℕ) (l : Line) (p : Plan) → Zero s l → Turned s (answer l p)
+answer_turned : (s : List ℕ) (l : Line) (p : Plan) → Zero s l → Turned s (answer l p)
 unfolding answer
-answer-turned s l p z = record { index = z.index; next = z.next; written = z.written; told = rw z.fault }
+answer_turned s l p z = record { index = z.index; next = z.next; written = z.written; told = rw z.fault }
 
-pub read-narrowed : (s : List ℕ) → (read_plan s ≡ read_before s) ⊎ Turned s (read_before s)
+pub read_narrowed : (s : List ℕ) → (read_plan s ≡ read_before s) ⊎ Turned s (read_before s)
 unfolding read_plan read_before
-read-narrowed s = by (ltb 60000 (length s)) (draft-narrowed s)
+read_narrowed s = by (ltb 60000 (length s)) (draft_narrowed s)
   where
     by : (t : Bool) → (draft_of s ≡ draft_before s) ⊎ Zero s (draft_before s).line
         → (cond t (refuse refusal.PlanTooLong) (answer (draft_of s).line (draft_of s).plan)
@@ -222,20 +222,20 @@ read-narrowed s = by (ltb 60000 (length s)) (draft-narrowed s)
         ⊎ Turned s (cond t (refuse refusal.PlanTooLong) (answer (draft_before s).line (draft_before s).plan))
     by true d = inl refl
     by false (inl e) = inl (rw e)
-    by false (inr z) = inr (answer-turned s (draft_before s).line (draft_before s).plan z)
+    by false (inr z) = inr (answer_turned s (draft_before s).line (draft_before s).plan z)
 
 pub record NoZero (s : List ℕ) : Type 0 where
   pub none : (at next : ℕ) → weight_at s at ≡ Value 0 next → ⊥
 
-pub read-as-before : (s : List ℕ) → NoZero s → read_plan s ≡ read_before s
-read-as-before s no_zero = by (read-narrowed s)
+pub read_as_before : (s : List ℕ) → NoZero s → read_plan s ≡ read_before s
+read_as_before s no_zero = by (read_narrowed s)
   where
     by : (read_plan s ≡ read_before s) ⊎ Turned s (read_before s) → read_plan s ≡ read_before s
     by (inl e) = e
     by (inr t) = absurd (no_zero.none t.index t.next t.written)
 
-pub passed-as-before : (s : List ℕ) → (read_before s).outcome ≡ outcome.Plan → read_plan s ≡ read_before s
-passed-as-before s passed = by (read-narrowed s)
+pub passed_as_before : (s : List ℕ) → (read_before s).outcome ≡ outcome.Plan → read_plan s ≡ read_before s
+passed_as_before s passed = by (read_narrowed s)
   where
     by : (read_plan s ≡ read_before s) ⊎ Turned s (read_before s) → read_plan s ≡ read_before s
     by (inl e) = e

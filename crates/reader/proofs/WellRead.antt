@@ -1,4 +1,4 @@
--- A plan that was read is well formed (`read-well`; `read_ok` of an answer). The answer is a plan only where the text is short
+-- A plan that was read is well formed (`read_well`; `read_ok` of an answer). The answer is a plan only where the text is short
 -- enough and no line has a fault; then every block was read without a fault.
 use mathlib.Core.Path.{◌≡◌, refl, sym, ap, ◌∙◌, subst}
 use mathlib.Core.Bool.{Bool, true, false, cond}
@@ -23,44 +23,44 @@ use Rattle.reader.specs.declared.block.AutomatonBlock.{AutomatonBlock}
 use Rattle.reader.specs.declared.block.SoftBlocks.{SoftBlocks}
 use Rattle.reader.specs.declared.Reading.{Reading}
 use Rattle.reader.specs.declared.Outcome.TheVariants as outcome
-use Rattle.reader.proofs.Sticky.{labels-keep, roads-keep, hard-keeps, softs-keep}
-use Rattle.reader.proofs.Columns.{column-below, labels-filled, roads-filled}
-use Rattle.reader.proofs.Faultless.{Faulty, faulty, was-good, finish-good, OneGood, one-good, hard-read, softs-read}
+use Rattle.reader.proofs.Sticky.{labels_keep, roads_keep, hard_keeps, softs_keep}
+use Rattle.reader.proofs.Columns.{column_below, labels_filled, roads_filled}
+use Rattle.reader.proofs.Faultless.{Faulty, faulty, was_good, finish_good, OneGood, one_good, hard_read, softs_read}
 
 -- the lines of the map
 module _ (s : List ℕ) (e : good (map_of s).line ≡ true) where
   abbrev marks_line : Line
   marks_line = line_of_one s (line_of_one s top tour_key 1 2) marks_key 0 9
 
-  abbrev pub places-line : Line
-  places-line = line_of_one s marks_line places_key 1 129
+  abbrev pub places_line : Line
+  places_line = line_of_one s marks_line places_key 1 129
 
-  abbrev labels-block : LabelBlock
-  labels-block = label_block s places-line (first_of places-line) (2 ^ first_of marks_line)
+  abbrev labels_block : LabelBlock
+  labels_block = label_block s places_line (first_of places_line) (2 ^ first_of marks_line)
 
-  abbrev start-line : Line
-  start-line = line_of_one s labels-block.line start_key 0 (first_of places-line)
+  abbrev start_line : Line
+  start_line = line_of_one s labels_block.line start_key 0 (first_of places_line)
 
-  abbrev pub roads-line : Line
-  roads-line = line_of_one s start-line roads_key 0 1025
+  abbrev pub roads_line : Line
+  roads_line = line_of_one s start_line roads_key 0 1025
 
-  pub roads-good : OneGood 0 1025 start-line roads-line
+  pub roads_good : OneGood 0 1025 start_line roads_line
   unfolding map_of
-  roads-good =
-      one-good s start-line roads_key 0 1025
-      (was-good roads-line (road_block s roads-line (first_of roads-line) (first_of places-line)).line
-      (roads-keep s Faulty (faulty s) roads-line (first_of roads-line) (first_of places-line)) e)
+  roads_good =
+      one_good s start_line roads_key 0 1025
+      (was_good roads_line (road_block s roads_line (first_of roads_line) (first_of places_line)).line
+      (roads_keep s Faulty (faulty s) roads_line (first_of roads_line) (first_of places_line)) e)
 
-  start-good : OneGood 0 (first_of places-line) labels-block.line start-line
-  start-good = one-good s labels-block.line start_key 0 (first_of places-line) roads-good.was
+  start_good : OneGood 0 (first_of places_line) labels_block.line start_line
+  start_good = one_good s labels_block.line start_key 0 (first_of places_line) roads_good.was
 
-  places-good : OneGood 1 129 marks_line places-line
-  places-good =
-      one-good s marks_line places_key 1 129
-      (was-good places-line labels-block.line (labels-keep s Faulty (faulty s) places-line (first_of places-line) (2 ^ first_of marks_line)) start-good.was)
+  places_good : OneGood 1 129 marks_line places_line
+  places_good =
+      one_good s marks_line places_key 1 129
+      (was_good places_line labels_block.line (labels_keep s Faulty (faulty s) places_line (first_of places_line) (2 ^ first_of marks_line)) start_good.was)
 
-  marks-good : OneGood 0 9 (line_of_one s top tour_key 1 2) marks_line
-  marks-good = one-good s (line_of_one s top tour_key 1 2) marks_key 0 9 places-good.was
+  marks_good : OneGood 0 9 (line_of_one s top tour_key 1 2) marks_line
+  marks_good = one_good s (line_of_one s top tour_key 1 2) marks_key 0 9 places_good.was
 
 -- the whole file
 module _ (s : List ℕ) (e : good (draft_of s).line ≡ true) where
@@ -70,83 +70,83 @@ module _ (s : List ℕ) (e : good (draft_of s).line ≡ true) where
   abbrev hard-block : AutomatonBlock
   hard-block = hard_block s (map_of s).line bound
 
-  abbrev rules-line : Line
-  rules-line = line_of_one s hard-block.line rules_key 0 9
+  abbrev rules_line : Line
+  rules_line = line_of_one s hard-block.line rules_key 0 9
 
-  abbrev soft-part : SoftBlocks
-  soft-part = soft_blocks s rules-line (first_of rules-line) bound
+  abbrev soft_part : SoftBlocks
+  soft_part = soft_blocks s rules_line (first_of rules_line) bound
 
   bound_some : 1 ≤ bound
   bound_some = one-le-pow (map_of s).marks 2 (omega arith)
 
-  softs-good : good soft-part.line ≡ true
+  softs_good : good soft_part.line ≡ true
   unfolding draft_of
-  softs-good = finish-good s soft-part.line e
+  softs_good = finish_good s soft_part.line e
 
-  rules-good : OneGood 0 9 hard-block.line rules-line
-  rules-good =
-      one-good s hard-block.line rules_key 0 9
-      (was-good rules-line soft-part.line (softs-keep s Faulty (faulty s) rules-line (first_of rules-line) bound) softs-good)
+  rules_good : OneGood 0 9 hard-block.line rules_line
+  rules_good =
+      one_good s hard-block.line rules_key 0 9
+      (was_good rules_line soft_part.line (softs_keep s Faulty (faulty s) rules_line (first_of rules_line) bound) softs_good)
 
-  pub map-good : good (map_of s).line ≡ true
-  map-good = was-good (map_of s).line hard-block.line (hard-keeps s Faulty (faulty s) (map_of s).line bound) rules-good.was
+  pub map_good : good (map_of s).line ≡ true
+  map_good = was_good (map_of s).line hard-block.line (hard_keeps s Faulty (faulty s) (map_of s).line bound) rules_good.was
 
-  draft-well : WellFormed (draft_of s).plan
+  draft_well : WellFormed (draft_of s).plan
   unfolding draft_of map_of
-  draft-well =
-      let g = map-good in
-      let p = places-good s g in
-      let n = first_of (places-line s g) in
-      let labels = labels-filled s (places-line s g) n (2 ^ first_of (marks_line s g)) in
-      let roads = roads-filled s (roads-line s g) (first_of (roads-line s g)) n in
-      let softs = softs-read s bound bound_some rules-line (first_of rules-line) in
-      let few : first_of rules-line ≤ 8 = omega (arith, rules-good.below) in
+  draft_well =
+      let g = map_good in
+      let p = places_good s g in
+      let n = first_of (places_line s g) in
+      let labels = labels_filled s (places_line s g) n (2 ^ first_of (marks_line s g)) in
+      let roads = roads_filled s (roads_line s g) (first_of (roads_line s g)) n in
+      let softs = softs_read s bound bound_some rules_line (first_of rules_line) in
+      let few : first_of rules_line ≤ 8 = omega (arith, rules_good.below) in
       record {
-        marks = omega (arith, (marks-good s g).below);
+        marks = omega (arith, (marks_good s g).below);
         some = p.least;
         few = omega (arith, p.below);
-        start = (start-good s g).below;
-        roads = omega (arith, (roads-good s g).below);
+        start = (start_good s g).below;
+        roads = omega (arith, (roads_good s g).below);
         rules = few;
-        labels = column-below _ n _ bound_some labels;
-        from = column-below n _ _ p.least roads.from;
-        to = column-below n _ _ p.least roads.to;
-        hard = hard-read s (map_of s).line bound bound_some rules-good.was;
-        softs = λ i h. (softs.read softs-good i h (omega arith)).well;
-        heavy = λ i h. (softs.read softs-good i h (omega arith)).heavy;
-        rest-labels = labels.rest;
+        labels = column_below _ n _ bound_some labels;
+        from = column_below n _ _ p.least roads.from;
+        to = column_below n _ _ p.least roads.to;
+        hard = hard_read s (map_of s).line bound bound_some rules_good.was;
+        softs = λ i h. (softs.read softs_good i h (omega arith)).well;
+        heavy = λ i h. (softs.read softs_good i h (omega arith)).heavy;
+        rest_labels = labels.rest;
         rest_from = roads.from.rest;
-        rest-to = roads.to.rest;
-        rest-softs = softs.rest;
-        rest-weights = softs.rest-weights;
+        rest_to = roads.to.rest;
+        rest_softs = softs.rest;
+        rest_weights = softs.rest_weights;
       }
 
 -- a plan is the answer only where nothing turns it away
 pub record Passed (l : Line) (p given : Plan) : Type 0 where
-  pub no-fault : good l ≡ true
+  pub no_fault : good l ≡ true
   pub same : given ≡ p
 
-pub answer-plan : (l : Line) (p : Plan) → (answer l p).outcome ≡ outcome.Plan → Passed l p (answer l p).plan
+pub answer_plan : (l : Line) (p : Plan) → (answer l p).outcome ≡ outcome.Plan → Passed l p (answer l p).plan
 unfolding answer
-answer-plan (line.Fault f) p e = let z : ◌≡◌ {A = ℕ} 0 1 = cc in absurd (omega arith)
-answer-plan (line.Numbers xs c) p e = record { no-fault = refl; same = refl }
+answer_plan (line.Fault f) p e = let z : ◌≡◌ {A = ℕ} 0 1 = cc in absurd (omega arith)
+answer_plan (line.Numbers xs c) p e = record { no_fault = refl; same = refl }
 
 module _ (s : List ℕ) (e : (read_plan s).outcome ≡ outcome.Plan) where
   pub passed : Passed (draft_of s).line (draft_of s).plan (read_plan s).plan
   unfolding read_plan
-  passed = by-test (ltb 60000 (length s)) e
+  passed = by_test (ltb 60000 (length s)) e
     where
-      by-test : (t : Bool)
+      by_test : (t : Bool)
           → (cond t (refuse PlanTooLong) (answer (draft_of s).line (draft_of s).plan)).outcome ≡ outcome.Plan
           → Passed (draft_of s).line (draft_of s).plan (cond t (refuse PlanTooLong) (answer (draft_of s).line (draft_of s).plan)).plan
-      by-test true e = let z : ◌≡◌ {A = ℕ} 0 1 = cc in absurd (omega arith)
-      by-test false e = answer-plan (draft_of s).line (draft_of s).plan e
+      by_test true e = let z : ◌≡◌ {A = ℕ} 0 1 = cc in absurd (omega arith)
+      by_test false e = answer_plan (draft_of s).line (draft_of s).plan e
 
-  pub read-well : WellFormed (read_plan s).plan
-  read-well = rw passed.same (draft-well s passed.no-fault)
+  pub read_well : WellFormed (read_plan s).plan
+  read_well = rw passed.same (draft_well s passed.no_fault)
 
 -- the same of what the reader answered
 pub read_ok : (s : List ℕ) (r : Reading) → r ≡ read_plan s → r.outcome ≡ outcome.Plan → WellFormed r.plan
 read_ok s r same e =
     let o : (read_plan s).outcome ≡ outcome.Plan = ap (λ x. x.outcome) (sym same) ∙ e in
-    subst (λ x. WellFormed x.plan) (sym same) (read-well s o)
+    subst (λ x. WellFormed x.plan) (sym same) (read_well s o)

@@ -54,14 +54,14 @@ noting_line pairs (line.Fault f) = pairs
 
 pub record RoadRead (given : Line) (bound : ℕ) (pairs : List ℕ) (r : Line) (pairs' : List ℕ) : Type 0 where
   pub same : r ≡ given
-  pub first-low : (numbers_of r).first ≤ bound - 1
-  pub second-low : (numbers_of r).second ≤ bound - 1
+  pub first_low : (numbers_of r).first ≤ bound - 1
+  pub second_low : (numbers_of r).second ≤ bound - 1
   pub noted : pairs' ≡ noting_line pairs r
 
 pub record MoveRead (given : Line) (q labels : ℕ) (r : Line) : Type 0 where
   pub same : r ≡ given
-  pub first-low : (numbers_of r).first ≤ q - 1
-  pub second-low : (numbers_of r).second ≤ labels - 1
-  pub third-low : (numbers_of r).third ≤ labels - 1
-  pub fourth-low : (numbers_of r).fourth ≤ labels - 1
-  pub fifth-low : (numbers_of r).fifth ≤ q - 1
+  pub first_low : (numbers_of r).first ≤ q - 1
+  pub second_low : (numbers_of r).second ≤ labels - 1
+  pub third_low : (numbers_of r).third ≤ labels - 1
+  pub fourth_low : (numbers_of r).fourth ≤ labels - 1
+  pub fifth_low : (numbers_of r).fifth ≤ q - 1

@@ -1,5 +1,5 @@
 -- Which place of a plan leads to which, as a table of 128 rows of 128 bytes that may stand anywhere in a longer list. What its entries say is a
--- law: `charted-at`.
+-- law: `charted_at`.
 --   road_cell from to at i == the entry of road i, in a table that begins at `at`
 --   park_cell stays at none u == the entry of place u with itself, where u stays; else `none`, a number past the end
 --   no_exit exits u        == no road leaves place u, as the list `exits` tells it

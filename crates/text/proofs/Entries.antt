@@ -1,13 +1,13 @@
 -- The numbers of a list, one after the other: how they are judged, and how they are written out.
---   front-none, front-ahead == nothing in front, and one number more in front
+--   front_none, front_ahead == nothing in front, and one number more in front
 --   Passed s at bound count fit next
 --               == so many numbers of the list at index `at` are passed, each ended by a comma; the next stands at `next`
---   passed_start, passed-more == none is passed at first; then one more
---   passed-end, passed-all    == where no number is ended by a comma, and where so many are passed as the text has bytes
---   ran-bad, ran-good         == the list, by the number behind those
---   no-end-past, ends-inside  == no line ends past the text
---   list-empty, list-entries  == a list is empty where its line ends at once, else its entries
---   list-fault, list-keyless, list-bad, list-good
+--   passed_start, passed_more == none is passed at first; then one more
+--   passed_end, passed_all    == where no number is ended by a comma, and where so many are passed as the text has bytes
+--   ran_bad, ran_good         == the list, by the number behind those
+--   no_end_past, ends_inside  == no line ends past the text
+--   list_empty, list_entries  == a list is empty where its line ends at once, else its entries
+--   list_fault, list_keyless, list_bad, list_good
 --                             == a line that holds a list: by the line before it, its key and its list
 use mathlib.Core.Path.{◌≡◌, refl, sym, ap, ◌∙◌}
 use mathlib.Core.Bool.{Bool, true, false, ◌&&◌}
@@ -32,21 +32,21 @@ use Rattle.text.specs.declared.list.ListLine.{ListLine}
 use Rattle.text.specs.declared.list.Run.{Run}
 use Rattle.text.specs.declared.list.Listing.{Listing}
 use Rattle.text.specs.declared.list.Listing.TheVariants as found
-use Rattle.text.proofs.Held.{Told, held-told, held-bad}
-use Rattle.text.proofs.Lines.{same-below}
-use Rattle.text.proofs.Lists.{under-append}
+use Rattle.text.proofs.Held.{Told, held_told, held_bad}
+use Rattle.text.proofs.Lines.{same_below}
+use Rattle.text.proofs.Lists.{under_append}
 
-front-none : (l : Items) → l ≡ in_front [] l
-front-none (items vs i) = refl
-front-none bad = refl
+front_none : (l : Items) → l ≡ in_front [] l
+front_none (items vs i) = refl
+front_none bad = refl
 
-front-ahead : (vs : List ℕ) (v : ℕ) (l : Items) → in_front vs (ahead v l) ≡ in_front (vs ++ (v ∷ [])) l
-front-ahead vs v (items ws i) = rw (append_assoc vs (v ∷ []) ws)
-front-ahead vs v bad = refl
+front_ahead : (vs : List ℕ) (v : ℕ) (l : Items) → in_front vs (ahead v l) ≡ in_front (vs ++ (v ∷ [])) l
+front_ahead vs v (items ws i) = rw (append_assoc vs (v ∷ []) ws)
+front_ahead vs v bad = refl
 
 under_one : (bound v : ℕ) (vs : List ℕ) → under bound (vs ++ (v ∷ [])) ≡ (under bound vs && ltb v bound)
 unfolding under
-under_one bound v vs = under-append bound vs (v ∷ []) ∙ ap (λ t. under bound vs && t) (and-true (ltb v bound))
+under_one bound v vs = under_append bound vs (v ∷ []) ∙ ap (λ t. under bound vs && t) (and-true (ltb v bound))
   where
     and-true : (t : Bool) → (t && true) ≡ t
     and-true true = refl
@@ -62,10 +62,10 @@ pub record Passed (s : List ℕ) (at bound count : ℕ) (fit : Bool) (next : ℕ
 
 -- n is the number at index i, held
 told : (s : List ℕ) (i e : ℕ) (n : Number) → n ≡ cap (number_at s i e) → (x next : ℕ) → n ≡ Value x next → Told (number_at s i e) x next
-told s i e n h x next k = held-told (number_at s i e) n (record { same = h }) x next k
+told s i e n h x next k = held_told (number_at s i e) n (record { same = h }) x next k
 
 none : (s : List ℕ) (i e : ℕ) (n : Number) → n ≡ cap (number_at s i e) → n ≡ Bad → number_at s i e ≡ Bad
-none s i e n h k = held-bad (number_at s i e) n (record { same = h }) k
+none s i e n h k = held_bad (number_at s i e) n (record { same = h }) k
 
 module _ (s : List ℕ) (at bound : ℕ) where
   pub passed_start : Passed s at bound 0 true at
@@ -75,7 +75,7 @@ module _ (s : List ℕ) (at bound : ℕ) where
     many = refl;
     few = omega arith;
     fits = refl;
-    same = let e : length s - 0 ≡ length s = omega arith in rw e (front-none (entries (length s) s at));
+    same = let e : length s - 0 ≡ length s = omega arith in rw e (front_none (entries (length s) s at));
   }
 
   module _ (count : ℕ) (fit : Bool) (next : ℕ) (p : Passed s at bound count fit next) where
@@ -83,23 +83,23 @@ module _ (s : List ℕ) (at bound : ℕ) where
       left : length s - count ≡ suc (length s - (count + 1))
       left = omega arith
 
-      pub passed-more : bound ≤ 4000000000 → (x i : ℕ) → n ≡ Value x i → (t : Bool) → t ≡ (fit && ltb x bound) → Passed s at bound (count + 1) t i
+      pub passed_more : bound ≤ 4000000000 → (x i : ℕ) → n ≡ Value x i → (t : Bool) → t ≡ (fit && ltb x bound) → Passed s at bound (count + 1) t i
       unfolding entries
-      passed-more b x i e t f =
+      passed_more b x i e t f =
           let v = value_of (number_at s next 44) in
           let r = told s next 44 n k x i e in
-          let test = (same-below v x bound r.held b).test in
+          let test = (same_below v x bound r.held b).test in
           record {
             numbers = p.numbers ++ (v ∷ []);
             many = omega (arith, length-append p.numbers (v ∷ []), p.many);
             few = omega arith;
             fits = f ∙ rw (test, p.fits) (sym (under_one bound v p.numbers));
-            same = p.same ∙ rw (left, r.is) (front-ahead p.numbers v (entries (length s - (count + 1)) s i));
+            same = p.same ∙ rw (left, r.is) (front_ahead p.numbers v (entries (length s - (count + 1)) s i));
           }
 
-      pub passed-end : n ≡ Bad → Ran s at bound (record { count = count; fit = fit; next = next })
+      pub passed_end : n ≡ Bad → Ran s at bound (record { count = count; fit = fit; next = next })
       unfolding entries
-      passed-end e = record {
+      passed_end e = record {
         numbers = p.numbers;
         many = p.many;
         few = p.few;
@@ -107,9 +107,9 @@ module _ (s : List ℕ) (at bound : ℕ) where
         same = p.same ∙ rw (left, none s next 44 n k e);
       }
 
-    pub passed-all : length s ≤ count → Ran s at bound (record { count = count; fit = fit; next = next })
+    pub passed_all : length s ≤ count → Ran s at bound (record { count = count; fit = fit; next = next })
     unfolding entries
-    passed-all h = record {
+    passed_all h = record {
       numbers = p.numbers;
       many = p.many;
       few = p.few;
@@ -118,64 +118,64 @@ module _ (s : List ℕ) (at bound : ℕ) where
     }
 
   module _ (r : Run) (p : Ran s at bound r) (n : Number) (k : n ≡ cap (number_at s r.next 10)) where
-    pub ran-bad : n ≡ Bad → found.Bad ≡ listing bound (entries (length s) s at)
-    ran-bad e = rw (p.same, none s r.next 10 n k e)
+    pub ran_bad : n ≡ Bad → found.Bad ≡ listing bound (entries (length s) s at)
+    ran_bad e = rw (p.same, none s r.next 10 n k e)
 
-    pub ran-good : bound ≤ 4000000000 → (x i : ℕ) → n ≡ Value x i → (t : Bool) → t ≡ (r.fit && ltb x bound)
+    pub ran_good : bound ≤ 4000000000 → (x i : ℕ) → n ≡ Value x i → (t : Bool) → t ≡ (r.fit && ltb x bound)
         → found.Items (record { count = r.count + 1; fit = t; next = i }) ≡ listing bound (entries (length s) s at)
-    ran-good b x i e t f =
+    ran_good b x i e t f =
         let v = value_of (number_at s r.next 10) in
         let g = told s r.next 10 n k x i e in
-        let test = (same-below v x bound g.held b).test in
+        let test = (same_below v x bound g.held b).test in
         let many : r.count + 1 ≡ length (p.numbers ++ (v ∷ [])) = omega (arith, length-append p.numbers (v ∷ []), p.many) in
         let fits : t ≡ under bound (p.numbers ++ (v ∷ [])) = f ∙ rw (test, p.fit) (sym (under_one bound v p.numbers)) in
         rw (p.same, g.is, many, fits)
 
 module _ (s : List ℕ) (at : ℕ) where
-  pub no-end-past : length s ≤ at → false ≡ eqb (get_or s at 0) 10
-  no-end-past h = rw (get_or-eq_default s 0 h)
+  pub no_end_past : length s ≤ at → false ≡ eqb (get_or s at 0) 10
+  no_end_past h = rw (get_or-eq_default s 0 h)
 
-  pub ends-inside : eqb (get_or s at 0) 10 ≡ true → at < length s
-  ends-inside e = by (ltb at (length s)) refl
+  pub ends_inside : eqb (get_or s at 0) 10 ≡ true → at < length s
+  ends_inside e = by (ltb at (length s)) refl
     where
       by : (t : Bool) → ltb at (length s) ≡ t → at < length s
       by true h = ltb-true at (length s) h
       by false h = let z : ◌≡◌ {A = ℕ} 0 10 = sym (get_or-eq_default s 0 (ltb-false at (length s) h)) ∙ eqb-true (get_or s at 0) 10 e in absurd (omega arith)
 
   module _ (bound : ℕ) where
-    pub list-empty : eqb (get_or s at 0) 10 ≡ true → found.Items (record { count = 0; fit = true; next = at + 1 }) ≡ listing bound (items_at s at)
+    pub list_empty : eqb (get_or s at 0) 10 ≡ true → found.Items (record { count = 0; fit = true; next = at + 1 }) ≡ listing bound (items_at s at)
     unfolding items_at under
-    list-empty e = rw e
+    list_empty e = rw e
 
-    pub list-entries : eqb (get_or s at 0) 10 ≡ false → listing bound (entries (length s) s at) ≡ listing bound (items_at s at)
+    pub list_entries : eqb (get_or s at 0) 10 ≡ false → listing bound (entries (length s) s at) ≡ listing bound (items_at s at)
     unfolding items_at
-    list-entries e = rw e
+    list_entries e = rw e
 
 module _ (s : List ℕ) (l : Line) (key : List ℕ) (bound : ℕ) where
-  pub list-fault : (f : Fault) → l ≡ line.Fault f → unlisted l ≡ list_line s l key bound
+  pub list_fault : (f : Fault) → l ≡ line.Fault f → unlisted l ≡ list_line s l key bound
   unfolding list_line
-  list-fault f p = rw p
+  list_fault f p = rw p
 
   module _ (xs : Numbers) (c : Cursor) (p : l ≡ line.Numbers xs c) (n : Number) (k : n ≡ key_at s c.at key) where
-    pub list-keyless : n ≡ Bad → unlisted (bad_form s c.at) ≡ list_line s l key bound
+    pub list_keyless : n ≡ Bad → unlisted (bad_form s c.at) ≡ list_line s l key bound
     unfolding list_line
-    list-keyless e = rw (p, ← k, e)
+    list_keyless e = rw (p, ← k, e)
 
     module _ (v at : ℕ) (e : n ≡ Value v at) (f : Listing) (g : f ≡ listing bound (items_at s at)) where
-      pub list-bad : f ≡ found.Bad → unlisted (bad_form s c.at) ≡ list_line s l key bound
+      pub list_bad : f ≡ found.Bad → unlisted (bad_form s c.at) ≡ list_line s l key bound
       unfolding list_line
-      list-bad z = rw (p, ← k, e) (by (items_at s at) (sym z ∙ g))
+      list_bad z = rw (p, ← k, e) (by (items_at s at) (sym z ∙ g))
         where
           by : (i : Items) → found.Bad ≡ listing bound i → unlisted (bad_form s c.at) ≡ judged_list s c.at at i bound
           by (items vs next) h = let z : ◌≡◌ {A = ℕ} 0 1 = cc in absurd (omega arith)
           by bad h = refl
 
-      pub list-good : (r : Run) → f ≡ found.Items r
+      pub list_good : (r : Run) → f ≡ found.Items r
           → ◌≡◌ {A = ListLine}
           (record { line = judged s c.at r.next r.fit (pair 0 0); list = record { at = at; count = r.count } })
           (list_line s l key bound)
       unfolding list_line
-      list-good r z = rw (p, ← k, e) (by (items_at s at) (sym z ∙ g))
+      list_good r z = rw (p, ← k, e) (by (items_at s at) (sym z ∙ g))
         where
           by : (i : Items) → found.Items r ≡ listing bound i
               → ◌≡◌ {A = ListLine}

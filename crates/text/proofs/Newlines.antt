@@ -10,40 +10,40 @@ use lib.Dec.{eqb}
 use lib.Seq.{drop-cons, take-nil}
 use Rattle.text.specs.Scan.{newline, newlines, line_at}
 
-pub line-start : (s : List ℕ) (at : ℕ) → line_at s at ≡ 1 + newlines (take (at - 0) (drop 0 s))
+pub line_start : (s : List ℕ) (at : ℕ) → line_at s at ≡ 1 + newlines (take (at - 0) (drop 0 s))
 unfolding line_at
-line-start s at = let e : at - 0 ≡ at = omega arith in rw e
+line_start s at = let e : at - 0 ≡ at = omega arith in rw e
 
 module _ (s : List ℕ) (at i : ℕ) where
-  pub newlines-more : i < at → i < length s
+  pub newlines_more : i < at → i < length s
       → newlines (take (at - i) (drop i s)) ≡ newline (get_or s i 0) + newlines (take (at - (i + 1)) (drop (i + 1) s))
   unfolding newlines
-  newlines-more h l = let e : at - i ≡ suc (at - (i + 1)) = omega arith in rw (e, drop-cons s i 0 l, add-one i)
+  newlines_more h l = let e : at - i ≡ suc (at - (i + 1)) = omega arith in rw (e, drop-cons s i 0 l, add-one i)
 
-  pub newlines-past : length s ≤ i → newlines (take (at - i) (drop i s)) ≡ 0
+  pub newlines_past : length s ≤ i → newlines (take (at - i) (drop i s)) ≡ 0
   unfolding newlines
-  newlines-past h = rw (drop_of_length-le s h, take-nil)
+  newlines_past h = rw (drop_of_length-le s h, take-nil)
 
-  pub newlines-done : at ≤ i → newlines (take (at - i) (drop i s)) ≡ 0
+  pub newlines_done : at ≤ i → newlines (take (at - i) (drop i s)) ≡ 0
   unfolding newlines
-  newlines-done h = let e : at - i ≡ 0 = omega arith in rw e
+  newlines_done h = let e : at - i ≡ 0 = omega arith in rw e
 
-newline-most : (b : ℕ) → newline b ≤ 1
-newline-most b = by-test (eqb b 10)
+newline_most : (b : ℕ) → newline b ≤ 1
+newline_most b = by_test (eqb b 10)
   where
-    by-test : (t : Bool) → cond t 1 0 ≤ 1
-    by-test true = omega arith
-    by-test false = omega arith
+    by_test : (t : Bool) → cond t 1 0 ≤ 1
+    by_test true = omega arith
+    by_test false = omega arith
 
-newlines-most : (d : List ℕ) → newlines d ≤ length d
+newlines_most : (d : List ℕ) → newlines d ≤ length d
 unfolding newlines
-newlines-most [] = omega arith
-newlines-most (b ∷ d) = omega (arith, newline-most b, newlines-most d)
+newlines_most [] = omega arith
+newlines_most (b ∷ d) = omega (arith, newline_most b, newlines_most d)
 
-pub line-least : (s : List ℕ) (at : ℕ) → 1 ≤ line_at s at
+pub line_least : (s : List ℕ) (at : ℕ) → 1 ≤ line_at s at
 unfolding line_at
-line-least s at = omega arith
+line_least s at = omega arith
 
-pub line-most : (s : List ℕ) (at : ℕ) → line_at s at ≤ length s + 1
+pub line_most : (s : List ℕ) (at : ℕ) → line_at s at ≤ length s + 1
 unfolding line_at
-line-most s at = omega (arith, newlines-most (take at s), length-take at s)
+line_most s at = omega (arith, newlines_most (take at s), length-take at s)

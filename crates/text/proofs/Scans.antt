@@ -14,13 +14,13 @@ use borrow.Author.Tests.{lt-ltb, le-ltb, ltb-false, leb-true, eq-eqb, ne_eqb}
 use Rattle.text.specs.Scan.{is_digit, canonical, digit_count, value, leading, number_at, cap}
 use Rattle.text.specs.declared.read.Number.TheVariants.{Value, Bad}
 
-last-two : (t u : Bool) → cond t false u ≡ true → (t ≡ false) × (u ≡ true)
-last-two true u e = let z : ◌≡◌ {A = ℕ} 0 1 = cc in absurd (omega arith)
-last-two false u e = (refl, e)
+last_two : (t u : Bool) → cond t false u ≡ true → (t ≡ false) × (u ≡ true)
+last_two true u e = let z : ◌≡◌ {A = ℕ} 0 1 = cc in absurd (omega arith)
+last_two false u e = (refl, e)
 
-pub digit-range : (b : ℕ) → is_digit b ≡ true → (48 ≤ b) × (b ≤ 57)
+pub digit_range : (b : ℕ) → is_digit b ≡ true → (48 ≤ b) × (b ≤ 57)
 unfolding is_digit
-digit-range b e = let h = last-two _ _ e in (ltb-false b 48 h.0, leb-true b 57 h.1)
+digit_range b e = let h = last_two _ _ e in (ltb-false b 48 h.0, leb-true b 57 h.1)
 
 module _ (M : ℕ) where
   held_more : (t : Bool) (v x : ℕ) (d : List ℕ) → ((w : ℕ) → min (value w d) M ≡ min (value (min w M) d) M)
@@ -36,9 +36,9 @@ module _ (M : ℕ) where
   held (b ∷ d) v = held_more (is_digit b) v (b - 48) d (held d)
 
 module _ (s : List ℕ) (i : ℕ) where
-  pub none-past : length s ≤ i → digit_count (drop i s) ≡ 0
+  pub none_past : length s ≤ i → digit_count (drop i s) ≡ 0
   unfolding digit_count
-  none-past h = rw (drop_of_length-le s h)
+  none_past h = rw (drop_of_length-le s h)
 
   module _ (h : i < length s) where
     module _ (e : is_digit (get_or s i 0) ≡ false) where
@@ -46,27 +46,27 @@ module _ (s : List ℕ) (i : ℕ) where
       unfolding digit_count
       none_here = rw (drop-cons s i 0 h, e)
 
-      pub value-here : (v : ℕ) → value v (drop i s) ≡ v
+      pub value_here : (v : ℕ) → value v (drop i s) ≡ v
       unfolding value
-      value-here v = rw (drop-cons s i 0 h, e)
+      value_here v = rw (drop-cons s i 0 h, e)
 
     module _ (e : is_digit (get_or s i 0) ≡ true) where
-      pub digit-count-more : digit_count (drop i s) ≡ digit_count (drop (i + 1) s) + 1
+      pub digit_count_more : digit_count (drop i s) ≡ digit_count (drop (i + 1) s) + 1
       unfolding digit_count
-      digit-count-more = rw (drop-cons s i 0 h, e, add-one i)
+      digit_count_more = rw (drop-cons s i 0 h, e, add-one i)
 
-      value-more : (v : ℕ) → value v (drop i s) ≡ value (v * 10 + (get_or s i 0 - 48)) (drop (i + 1) s)
+      value_more : (v : ℕ) → value v (drop i s) ≡ value (v * 10 + (get_or s i 0 - 48)) (drop (i + 1) s)
       unfolding value
-      value-more v = rw (drop-cons s i 0 h, e, add-one i)
+      value_more v = rw (drop-cons s i 0 h, e, add-one i)
 
-      pub held-value : (M v : ℕ) → min (value v (drop i s)) M ≡ min (value (min (v * 10 + (get_or s i 0 - 48)) M) (drop (i + 1) s)) M
-      held-value M v = ap (λ (w : ℕ). min w M) (value-more v) ∙ held M (drop (i + 1) s) _
+      pub held_value : (M v : ℕ) → min (value v (drop i s)) M ≡ min (value (min (v * 10 + (get_or s i 0 - 48)) M) (drop (i + 1) s)) M
+      held_value M v = ap (λ (w : ℕ). min w M) (value_more v) ∙ held M (drop (i + 1) s) _
 
 -- the digits from `at` on end at index i
 module _ (s : List ℕ) (at i e : ℕ) (from : at ≤ i) (count : digit_count (drop at s) ≡ i - at) where
-  pub ends-text : length s ≤ i → Bad ≡ cap (number_at s at e)
+  pub ends_text : length s ≤ i → Bad ≡ cap (number_at s at e)
   unfolding number_at leading cap
-  ends-text h = let g : length (drop at s) ≤ i - at = simp length-drop (omega arith) in rw (count, le-ltb _ _ g)
+  ends_text h = let g : length (drop at s) ≤ i - at = simp length-drop (omega arith) in rw (count, le-ltb _ _ g)
 
   first : get_or (drop at s) 0 0 ≡ get_or s at 0
   first = rw (get_or-drop at s 0 0, add-zero at)
@@ -78,14 +78,14 @@ module _ (s : List ℕ) (at i e : ℕ) (from : at ≤ i) (count : digit_count (d
     inside : i - at < length (drop at s)
     inside = simp length-drop (omega arith)
 
-    pub ends-otherwise : (get_or s i 0 ≡ e → ⊥) → Bad ≡ cap (number_at s at e)
+    pub ends_otherwise : (get_or s i 0 ≡ e → ⊥) → Bad ≡ cap (number_at s at e)
     unfolding number_at leading cap
-    ends-otherwise k = rw (count, lt-ltb _ _ inside, last, ne_eqb _ _ k)
+    ends_otherwise k = rw (count, lt-ltb _ _ inside, last, ne_eqb _ _ k)
 
     module _ (k : get_or s i 0 ≡ e) where
-      pub not-canonical : canonical (get_or s at 0) (i - at) ≡ false → Bad ≡ cap (number_at s at e)
+      pub not_canonical : canonical (get_or s at 0) (i - at) ≡ false → Bad ≡ cap (number_at s at e)
       unfolding number_at leading cap
-      not-canonical c = rw (count, lt-ltb _ _ inside, last, eq-eqb _ _ k, first, c)
+      not_canonical c = rw (count, lt-ltb _ _ inside, last, eq-eqb _ _ k, first, c)
 
       pub number_read : canonical (get_or s at 0) (i - at) ≡ true → (v : ℕ) → v ≡ min (value 0 (drop at s)) 4000000000
           → Value v (i + 1) ≡ cap (number_at s at e)

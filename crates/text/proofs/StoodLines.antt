@@ -1,33 +1,33 @@
 -- A line that is read without a fault stands in the text as it would be written; a fault tells the line that has it.
 --   next_at l              == the index at which the line behind l begins, 0 of a fault
 --   Stood s at text next  == the bytes `text` stand in s at index `at`, and `next` is just past them
---   stood-join            == what stands one behind the other stands as one
+--   stood_join            == what stands one behind the other stands as one
 --   starts-with           == a text that begins with a key is the key and then the rest
---   key-stood             == a key that is found stands there
---   number-stood          == a number that is read stands there in decimal, with the byte that ends it
---   commaed-some          == some numbers, each behind a comma, are a comma and then the numbers joined
---   entries-stood         == numbers that are read stand there, joined by commas, with the line's end
---   entries-enough        == so many numbers as the text has bytes may have a comma; were it more, nothing would change
---   items-stood           == so do those of a list, which may be empty
+--   key_stood             == a key that is found stands there
+--   number_stood          == a number that is read stands there in decimal, with the byte that ends it
+--   commaed_some          == some numbers, each behind a comma, are a comma and then the numbers joined
+--   entries_stood         == numbers that are read stand there, joined by commas, with the line's end
+--   entries_enough        == so many numbers as the text has bytes may have a comma; were it more, nothing would change
+--   items_stood           == so do those of a list, which may be empty
 --   Follows s l text r    == the line r behind the line l: the fault of l again, or a fault of the line that begins where l ends, or
 --                            `text` stands from there to where r ends
---   follows-good          == a line without a fault is behind one without a fault, and stands there
+--   follows_good          == a line without a fault is behind one without a fault, and stands there
 --   number_line s l key fit == a line `key=a` behind l, its number judged by fit
---   number-follows        == it follows l as key and decimal number
+--   number_follows        == it follows l as key and decimal number
 --   one_follows           == so does a line of one number in a range
 --   ListFollows s l key bound r
 --                         == so does a line r that holds a list, as key and joined numbers; without a fault it has as many numbers as
 --                            it says, all below bound
---   list-follows          == every line that holds a list is such a one
---   finish-good           == if the text is found whole, its last line has no fault, and nothing stands behind it
---   newlines-append       == the line ends of two parts are those of both
---   newlines-decimal, newlines-joined == numbers have no line end
---   newlines-line         == a line whose key and value have none has one
---   stood-newlines        == the line ends up to what stands there, and with it
+--   list_follows          == every line that holds a list is such a one
+--   finish_good           == if the text is found whole, its last line has no fault, and nothing stands behind it
+--   newlines_append       == the line ends of two parts are those of both
+--   newlines_decimal, newlines_joined == numbers have no line end
+--   newlines_line         == a line whose key and value have none has one
+--   stood_newlines        == the line ends up to what stands there, and with it
 --   fault_line l           == the line of s that has the fault of l, 0 of none
 --   Begun s k l           == l comes behind k lines of s: so many line ends are passed, or one of those lines has the fault
---   begun-top, begun-next == so it is before the first line, and from line to line
---   begun-finish          == bytes behind the last line are the next one
+--   begun_top, begun_next == so it is before the first line, and from line to line
+--   begun_finish          == bytes behind the last line are the next one
 use mathlib.Core.Path.{◌≡◌, refl, sym, ap, subst, ◌∙◌}
 use mathlib.Core.Bool.{Bool, true, false, cond, false≢true}
 use mathlib.Core.List.{List, [], ◌∷◌, ◌++◌, append-nil, append_assoc}
@@ -53,10 +53,10 @@ use Rattle.text.specs.declared.line.Cursor.{Cursor}
 use Rattle.text.specs.declared.line.Line.{Line}
 use Rattle.text.specs.declared.line.Line.TheVariants as line
 use Rattle.text.specs.declared.list.ListLine.{ListLine}
-use Rattle.text.proofs.Decimals.{decimal-small, decimal-more, decimal-each}
-use Rattle.text.proofs.Entries.{ends-inside}
-use Rattle.text.proofs.Spelling.{Next, final, more, entries-some, entries_next}
-use Rattle.text.proofs.WrittenBack.{pick-value, written_back}
+use Rattle.text.proofs.Decimals.{decimal_small, decimal_more, decimal_each}
+use Rattle.text.proofs.Entries.{ends_inside}
+use Rattle.text.proofs.Spelling.{Next, final, more, entries_some, entries_next}
+use Rattle.text.proofs.WrittenBack.{pick_value, written_back}
 
 abbrev pub next_at : Line → ℕ
 next_at (line.Numbers xs c) = c.at
@@ -66,8 +66,8 @@ pub record Stood (s : List ℕ) (at : ℕ) (text : List ℕ) (next : ℕ) : Type
   pub bytes : drop at s ≡ text ++ drop next s
   pub place : next ≡ at + length text
 
-pub stood-join : {s : List ℕ} {a : ℕ} {t : List ℕ} {b : ℕ} {u : List ℕ} {c : ℕ} → Stood s a t b → Stood s b u c → Stood s a (t ++ u) c
-stood-join {s} {a} {t} {b} {u} {c} p q = record {
+pub stood_join : {s : List ℕ} {a : ℕ} {t : List ℕ} {b : ℕ} {u : List ℕ} {c : ℕ} → Stood s a t b → Stood s b u c → Stood s a (t ++ u) c
+stood_join {s} {a} {t} {b} {u} {c} p q = record {
   bytes = p.bytes ∙ rw (q.bytes, append_assoc t u (drop c s));
   place = omega (arith, p.place, q.place, length-append t u);
 }
@@ -84,39 +84,39 @@ starts-with (k ∷ ks) (b ∷ d) e = by (eqb b k) refl e (starts-with ks d)
     by false h e rest = absurd (false≢true e)
 
 module _ (s : List ℕ) (at : ℕ) where
-  pub key-stood : (key : List ℕ) (v i : ℕ) → key_at s at key ≡ Value v i → Stood s at key i
+  pub key_stood : (key : List ℕ) (v i : ℕ) → key_at s at key ≡ Value v i → Stood s at key i
   unfolding key_at
-  key-stood key v i e =
-      let p = pick-value (starts_with key (drop at s)) _ v i e in
+  key_stood key v i e =
+      let p = pick_value (starts_with key (drop at s)) _ v i e in
       let past : at + length key ≡ i = cc p.1 in
       record { bytes = starts-with key (drop at s) p.0 ∙ rw (drop-drop (length key) at s, past); place = sym past }
 
-  pub number-stood : (e v i : ℕ) → number_at s at e ≡ Value v i → Stood s at (decimal v ++ (e ∷ [])) i
-  number-stood e v i h =
+  pub number_stood : (e v i : ℕ) → number_at s at e ≡ Value v i → Stood s at (decimal v ++ (e ∷ [])) i
+  number_stood e v i h =
       let w = written_back s at e v i h in
       record { bytes = w.0 ∙ rw append_assoc; place = simp length-append (omega (arith, w.1)) }
 
-commaed-some : (vs : List ℕ) → 0 < length vs → commaed vs ≡ 44 ∷ joined vs
+commaed_some : (vs : List ℕ) → 0 < length vs → commaed vs ≡ 44 ∷ joined vs
 unfolding commaed joined
-commaed-some [] h = absurd (omega arith)
-commaed-some (v ∷ vs) h = refl
+commaed_some [] h = absurd (omega arith)
+commaed_some (v ∷ vs) h = refl
 
-pub entries-stood : (s : List ℕ) (vs : List ℕ) (e k at : ℕ) → entries k s at ≡ items vs e → Stood s at (joined vs ++ (10 ∷ [])) e
+pub entries_stood : (s : List ℕ) (vs : List ℕ) (e k at : ℕ) → entries k s at ≡ items vs e → Stood s at (joined vs ++ (10 ∷ [])) e
 unfolding joined commaed
-entries-stood s [] e k at h = absurd (omega (arith, entries-some k s at [] e h))
-entries-stood s (v ∷ vs) e k at h = by (entries_next s at v vs e k h) (entries-stood s vs e)
+entries_stood s [] e k at h = absurd (omega (arith, entries_some k s at [] e h))
+entries_stood s (v ∷ vs) e k at h = by (entries_next s at v vs e k h) (entries_stood s vs e)
   where
     by : Next s at v vs e → ((k at : ℕ) → entries k s at ≡ items vs e → Stood s at (joined vs ++ (10 ∷ [])) e)
         → Stood s at (joined (v ∷ vs) ++ (10 ∷ [])) e
-    by (final z p) rest = rw (z, append-nil) (number-stood s at 10 v e p)
+    by (final z p) rest = rw (z, append-nil) (number_stood s at 10 v e p)
     by (more j i some p q) rest =
         let same : (decimal v ++ (44 ∷ [])) ++ (joined vs ++ (10 ∷ [])) ≡ joined (v ∷ vs) ++ (10 ∷ []) =
-        rw (append_assoc, append_assoc, commaed-some vs some) in
-        subst (λ t. Stood s at t e) same (stood-join (number-stood s at 44 v i p) (rest j i q))
+        rw (append_assoc, append_assoc, commaed_some vs some) in
+        subst (λ t. Stood s at t e) same (stood_join (number_stood s at 44 v i p) (rest j i q))
 
-pub items-stood : (s : List ℕ) (at : ℕ) (vs : List ℕ) (e : ℕ) → items_at s at ≡ items vs e → Stood s at (joined vs ++ (10 ∷ [])) e
+pub items_stood : (s : List ℕ) (at : ℕ) (vs : List ℕ) (e : ℕ) → items_at s at ≡ items vs e → Stood s at (joined vs ++ (10 ∷ [])) e
 unfolding items_at joined
-items-stood s at vs e h = by (eqb (get_or s at 0) 10) refl h
+items_stood s at vs e h = by (eqb (get_or s at 0) 10) refl h
   where
     by : (t : Bool) → eqb (get_or s at 0) 10 ≡ t → cond t (items [] (at + 1)) (entries (length s) s at) ≡ items vs e
         → Stood s at (joined vs ++ (10 ∷ [])) e
@@ -124,42 +124,42 @@ items-stood s at vs e h = by (eqb (get_or s at 0) 10) refl h
         let none : [] ≡ vs = cc g in
         let past : at + 1 ≡ e = cc g in
         rw (← none, ← past)
-        (record { bytes = rw (add-one at) (drop-cons s at 0 (ends-inside s at p) ∙ rw (eqb-true (get_or s at 0) 10 p)); place = refl })
-    by false p g = entries-stood s vs e (length s) at g
+        (record { bytes = rw (add-one at) (drop-cons s at 0 (ends_inside s at p) ∙ rw (eqb-true (get_or s at 0) 10 p)); place = refl })
+    by false p g = entries_stood s vs e (length s) at g
 
 -- where no more bytes are left than numbers may yet have a comma, one more that may changes nothing
-entries-more : (s : List ℕ) (k at : ℕ) → length s ≤ at + k → entries k s at ≡ entries (suc k) s at
+entries_more : (s : List ℕ) (k at : ℕ) → length s ≤ at + k → entries k s at ≡ entries (suc k) s at
 unfolding entries
-entries-more s zero at h = by (number_at s at 44) refl
+entries_more s zero at h = by (number_at s at 44) refl
   where
     by : (n : Number) → number_at s at 44 ≡ n → last (number_at s at 10) ≡ entry n (entries 0 s) (last (number_at s at 10))
     by (Value v i) e =
-        let stood = number-stood s at 44 v i e in
+        let stood = number_stood s at 44 v i e in
         absurd (omega (arith, stood.place, ap length stood.bytes, length-drop at s, length-append (decimal v ++ (44 ∷ [])) (drop i s), length-append (decimal v) (44 ∷ [])))
     by Bad e = refl
-entries-more s (suc k) at h = by (number_at s at 44) refl (entries-more s k)
+entries_more s (suc k) at h = by (number_at s at 44) refl (entries_more s k)
   where
     by : (n : Number) → number_at s at 44 ≡ n → ((i : ℕ) → length s ≤ i + k → entries k s i ≡ entries (suc k) s i)
         → entry n (entries k s) (last (number_at s at 10)) ≡ entry n (entries (suc k) s) (last (number_at s at 10))
-    by (Value v i) e rest = ap (ahead v) (rest i (omega (arith, (number-stood s at 44 v i e).place, length-append (decimal v) (44 ∷ []))))
+    by (Value v i) e rest = ap (ahead v) (rest i (omega (arith, (number_stood s at 44 v i e).place, length-append (decimal v) (44 ∷ []))))
     by Bad e rest = refl
 
-pub entries-enough : (s : List ℕ) (at n : ℕ) → entries (n + length s) s at ≡ entries (length s) s at
-entries-enough s at zero = ap (λ k. entries k s at) (omega arith)
-entries-enough s at (suc n) =
+pub entries_enough : (s : List ℕ) (at n : ℕ) → entries (n + length s) s at ≡ entries (length s) s at
+entries_enough s at zero = ap (λ k. entries k s at) (omega arith)
+entries_enough s at (suc n) =
     let same : suc n + length s ≡ suc (n + length s) = omega arith in
-    rw same (sym (entries-more s (n + length s) at (omega arith)) ∙ entries-enough s at n)
+    rw same (sym (entries_more s (n + length s) at (omega arith)) ∙ entries_enough s at n)
 
 pub data Follows (s : List ℕ) (l : Line) (text : List ℕ) (r : Line) : Type 0 where
   again : good l ≡ false → r ≡ l → Follows s l text r
   faulty : (f : Fault) → good l ≡ true → r ≡ line.Fault f → fault.line_of f ≡ line_at s (next_at l) → Follows s l text r
   stands : good l ≡ true → good r ≡ true → Stood s (next_at l) text (next_at r) → Follows s l text r
 
-pub follows-good : {s : List ℕ} {l : Line} {text : List ℕ} {r : Line} → Follows s l text r → good r ≡ true
+pub follows_good : {s : List ℕ} {l : Line} {text : List ℕ} {r : Line} → Follows s l text r → good r ≡ true
     → (good l ≡ true) × Stood s (next_at l) text (next_at r)
-follows-good (again h e) g = absurd (false≢true (sym h ∙ ap good (sym e) ∙ g))
-follows-good (faulty f h e n) g = absurd (false≢true (ap good (sym e) ∙ g))
-follows-good (stands h k p) g = (h, p)
+follows_good (again h e) g = absurd (false≢true (sym h ∙ ap good (sym e) ∙ g))
+follows_good (faulty f h e n) g = absurd (false≢true (ap good (sym e) ∙ g))
+follows_good (stands h k p) g = (h, p)
 
 abbrev pub number_line : List ℕ → Line → List ℕ → (ℕ → Bool) → Line
 number_line s l key fit =
@@ -177,24 +177,24 @@ module _ (s : List ℕ) (key : List ℕ) (xs : Numbers) (c : Cursor) where
   by_number fit at k (Value v i) e = by (fit v)
     where
       by : (t : Bool) → Numbered (closed s c.at (Value v i) t (pair v 0))
-      by true = stands refl refl (stood-join k (number-stood s at 10 v i e))
+      by true = stands refl refl (stood_join k (number_stood s at 10 v i e))
       by false = faulty _ refl refl refl
 
   by_key : (fit : ℕ → Bool) (k : Number) → key_at s c.at key ≡ k
       → Numbered (let a = next_number s k 10 in closed s c.at a (fit (value_of a)) (pair (value_of a) 0))
   by_key fit Bad e = faulty _ refl refl refl
-  by_key fit (Value v at) e = by_number fit at (key-stood s c.at key v at e) (number_at s at 10) refl
+  by_key fit (Value v at) e = by_number fit at (key_stood s c.at key v at e) (number_at s at 10) refl
 
 module _ (s : List ℕ) (key : List ℕ) where
-  pub number-follows : (l : Line) (fit : ℕ → Bool)
+  pub number_follows : (l : Line) (fit : ℕ → Bool)
       → Follows s l (key_line key (decimal (first_of (number_line s l key fit)))) (number_line s l key fit)
-  number-follows (line.Fault f) fit = again refl refl
-  number-follows (line.Numbers xs c) fit = by_key s key xs c fit (key_at s c.at key) refl
+  number_follows (line.Fault f) fit = again refl refl
+  number_follows (line.Numbers xs c) fit = by_key s key xs c fit (key_at s c.at key) refl
 
   pub one_follows : (l : Line) (low bound : ℕ)
       → Follows s l (key_line key (decimal (first_of (line_of_one s l key low bound)))) (line_of_one s l key low bound)
   unfolding line_of_one
-  one_follows l low bound = number-follows l (λ x. within x low bound)
+  one_follows l low bound = number_follows l (λ x. within x low bound)
 
 pub record ListFollows (s : List ℕ) (l : Line) (key : List ℕ) (bound : ℕ) (r : ListLine) : Type 0 where
   pub follows : Follows s l (key_line key (joined (places_of s r.list))) r.line
@@ -209,71 +209,71 @@ module _ (s : List ℕ) (key : List ℕ) (bound : ℕ) where
 
   -- behind a line without a fault: by the key that is found, and by the list
   module _ (xs : Numbers) (c : Cursor) where
-    by-items : (at : ℕ) → Stood s c.at key at → (i : Items) → items_at s at ≡ i
+    by_items : (at : ℕ) → Stood s c.at key at → (i : Items) → items_at s at ≡ i
         → ListFollows s (line.Numbers xs c) key bound (judged_list s c.at at i bound)
     unfolding key_line
-    by-items at k bad e = listless _ _ refl (faulty _ refl refl refl)
-    by-items at k (items vs i) e = by (under bound vs) refl
+    by_items at k bad e = listless _ _ refl (faulty _ refl refl refl)
+    by_items at k (items vs i) e = by (under bound vs) refl
       where
         by : (t : Bool) → under bound vs ≡ t → ListFollows s (line.Numbers xs c) key bound (judged_list s c.at at (items vs i) bound)
         by true u = record {
-          follows = stands refl (rw u) (rw (e, u) (stood-join k (items-stood s at vs i e)));
+          follows = stands refl (rw u) (rw (e, u) (stood_join k (items_stood s at vs i e)));
           whole = λ g. rw e;
           fits = λ g. rw e u;
         }
         by false u = listless _ _ (rw u) (faulty (Range (line_at s c.at)) refl (rw u) refl)
 
-    by-list-key : (k : Number) → key_at s c.at key ≡ k → ListFollows s (line.Numbers xs c) key bound (list_behind s c.at k bound)
-    by-list-key Bad e = listless _ _ refl (faulty _ refl refl refl)
-    by-list-key (Value v at) e = by-items at (key-stood s c.at key v at e) (items_at s at) refl
+    by_list_key : (k : Number) → key_at s c.at key ≡ k → ListFollows s (line.Numbers xs c) key bound (list_behind s c.at k bound)
+    by_list_key Bad e = listless _ _ refl (faulty _ refl refl refl)
+    by_list_key (Value v at) e = by_items at (key_stood s c.at key v at e) (items_at s at) refl
 
-  pub list-follows : (l : Line) → ListFollows s l key bound (list_line s l key bound)
+  pub list_follows : (l : Line) → ListFollows s l key bound (list_line s l key bound)
   unfolding list_line
-  list-follows (line.Fault f) = listless _ _ refl (again refl refl)
-  list-follows (line.Numbers xs c) = by-list-key xs c (key_at s c.at key) refl
+  list_follows (line.Fault f) = listless _ _ refl (again refl refl)
+  list_follows (line.Numbers xs c) = by_list_key xs c (key_at s c.at key) refl
 
-pub finish-good : (s : List ℕ) (l : Line) → good (finish s l) ≡ true → (good l ≡ true) × (length s ≤ next_at l)
+pub finish_good : (s : List ℕ) (l : Line) → good (finish s l) ≡ true → (good l ≡ true) × (length s ≤ next_at l)
 unfolding finish
-finish-good s (line.Fault f) g = absurd (false≢true g)
-finish-good s (line.Numbers xs c) g = by (ltb c.at (length s)) refl g
+finish_good s (line.Fault f) g = absurd (false≢true g)
+finish_good s (line.Numbers xs c) g = by (ltb c.at (length s)) refl g
   where
     by : (t : Bool) → ltb c.at (length s) ≡ t → good (cond t (bad_form s c.at) (line.Numbers xs c)) ≡ true
         → ◌≡◌ {A = Bool} true true × (length s ≤ c.at)
     by true h e = absurd (false≢true e)
     by false h e = (refl, ltb-false c.at (length s) h)
 
-pub newlines-append : (s t : List ℕ) → newlines (s ++ t) ≡ newlines s + newlines t
+pub newlines_append : (s t : List ℕ) → newlines (s ++ t) ≡ newlines s + newlines t
 unfolding newlines
-newlines-append [] t = omega arith
-newlines-append (b ∷ s) t = omega (arith, newlines-append s t)
+newlines_append [] t = omega arith
+newlines_append (b ∷ s) t = omega (arith, newlines_append s t)
 
-glyph-newlines : (d : ℕ) → newlines ((48 + d) ∷ []) ≡ 0
+glyph_newlines : (d : ℕ) → newlines ((48 + d) ∷ []) ≡ 0
 unfolding newlines
-glyph-newlines d = rw (ne_eqb (48 + d) 10 (λ e. omega arith))
+glyph_newlines d = rw (ne_eqb (48 + d) 10 (λ e. omega arith))
 
-pub newlines-decimal : (n : ℕ) → newlines (decimal n) ≡ 0
-newlines-decimal =
-    decimal-each (λ n. newlines (decimal n) ≡ 0) (λ n h. rw (decimal-small n h) (glyph-newlines n))
-    (λ n h tenth. rw (decimal-more n h, newlines-append, tenth, glyph-newlines (n % 10)))
+pub newlines_decimal : (n : ℕ) → newlines (decimal n) ≡ 0
+newlines_decimal =
+    decimal_each (λ n. newlines (decimal n) ≡ 0) (λ n h. rw (decimal_small n h) (glyph_newlines n))
+    (λ n h tenth. rw (decimal_more n h, newlines_append, tenth, glyph_newlines (n % 10)))
 
-commaed-newlines : (vs : List ℕ) → newlines (commaed vs) ≡ 0
+commaed_newlines : (vs : List ℕ) → newlines (commaed vs) ≡ 0
 unfolding newlines commaed
-commaed-newlines [] = refl
-commaed-newlines (v ∷ vs) = rw (newlines-append, newlines-decimal, commaed-newlines vs)
+commaed_newlines [] = refl
+commaed_newlines (v ∷ vs) = rw (newlines_append, newlines_decimal, commaed_newlines vs)
 
-pub newlines-joined : (vs : List ℕ) → newlines (joined vs) ≡ 0
+pub newlines_joined : (vs : List ℕ) → newlines (joined vs) ≡ 0
 unfolding newlines joined
-newlines-joined [] = refl
-newlines-joined (v ∷ vs) = rw (newlines-append, newlines-decimal, commaed-newlines vs)
+newlines_joined [] = refl
+newlines_joined (v ∷ vs) = rw (newlines_append, newlines_decimal, commaed_newlines vs)
 
-pub newlines-line : (key value : List ℕ) → newlines key ≡ 0 → newlines value ≡ 0 → newlines (key_line key value) ≡ 1
+pub newlines_line : (key value : List ℕ) → newlines key ≡ 0 → newlines value ≡ 0 → newlines (key_line key value) ≡ 1
 unfolding newlines key_line
-newlines-line key value h k = rw (newlines-append, newlines-append, h, k)
+newlines_line key value h k = rw (newlines_append, newlines_append, h, k)
 
-stood-newlines : {s : List ℕ} {at : ℕ} {text : List ℕ} {next : ℕ} → Stood s at text next
+stood_newlines : {s : List ℕ} {at : ℕ} {text : List ℕ} {next : ℕ} → Stood s at text next
     → newlines (take next s) ≡ newlines (take at s) + newlines text
-stood-newlines {s} {at} {text} {next} p =
-    ap (λ n. newlines (take n s)) p.place ∙ rw (take-add at (length text) s, newlines-append, p.bytes, take-append_seam)
+stood_newlines {s} {at} {text} {next} p =
+    ap (λ n. newlines (take n s)) p.place ∙ rw (take-add at (length text) s, newlines_append, p.bytes, take-append_seam)
 
 abbrev pub fault_line : Line → ℕ
 fault_line (line.Numbers xs c) = 0
@@ -283,26 +283,26 @@ pub record Begun (s : List ℕ) (k : ℕ) (l : Line) : Type 0 where
   pub passed : good l ≡ true → newlines (take (next_at l) s) ≡ k
   pub low : fault_line l ≤ k
 
-good-line : (l : Line) → good l ≡ true → fault_line l ≡ 0
-good-line (line.Numbers xs c) g = refl
-good-line (line.Fault f) g = absurd (false≢true g)
+good_line : (l : Line) → good l ≡ true → fault_line l ≡ 0
+good_line (line.Numbers xs c) g = refl
+good_line (line.Fault f) g = absurd (false≢true g)
 
-pub begun-top : (s : List ℕ) → Begun s 0 top
+pub begun_top : (s : List ℕ) → Begun s 0 top
 unfolding newlines
-begun-top s = record { passed = λ g. refl; low = omega arith }
+begun_top s = record { passed = λ g. refl; low = omega arith }
 
-pub begun-next : {s : List ℕ} {k : ℕ} {l : Line} {text : List ℕ} {r : Line}
+pub begun_next : {s : List ℕ} {k : ℕ} {l : Line} {text : List ℕ} {r : Line}
     → Begun s k l → Follows s l text r → newlines text ≡ 1 → Begun s (k + 1) r
 unfolding line_at
-begun-next b (again h e) n = rw e (record { passed = λ g. absurd (false≢true (sym h ∙ g)); low = omega (arith, b.low) })
-begun-next b (faulty f h e m) n = rw e (record { passed = λ g. absurd (false≢true g); low = omega (arith, b.passed h, m) })
-begun-next {r = r} b (stands h g p) n =
-    record { passed = λ k. omega (arith, stood-newlines p, b.passed h); low = omega (arith, good-line r g) }
+begun_next b (again h e) n = rw e (record { passed = λ g. absurd (false≢true (sym h ∙ g)); low = omega (arith, b.low) })
+begun_next b (faulty f h e m) n = rw e (record { passed = λ g. absurd (false≢true g); low = omega (arith, b.passed h, m) })
+begun_next {r = r} b (stands h g p) n =
+    record { passed = λ k. omega (arith, stood_newlines p, b.passed h); low = omega (arith, good_line r g) }
 
-pub begun-finish : {s : List ℕ} {k : ℕ} {l : Line} → Begun s k l → fault_line (finish s l) ≤ k + 1
+pub begun_finish : {s : List ℕ} {k : ℕ} {l : Line} → Begun s k l → fault_line (finish s l) ≤ k + 1
 unfolding finish line_at
-begun-finish {l = line.Fault f} b = omega (arith, b.low)
-begun-finish {s} {k} {l = line.Numbers xs c} b = by (ltb c.at (length s))
+begun_finish {l = line.Fault f} b = omega (arith, b.low)
+begun_finish {s} {k} {l = line.Numbers xs c} b = by (ltb c.at (length s))
   where
     by : (t : Bool) → fault_line (cond t (bad_form s c.at) (line.Numbers xs c)) ≤ k + 1
     by true = omega (arith, b.passed refl)

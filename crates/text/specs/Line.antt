@@ -71,4 +71,4 @@ finish s (line.Numbers xs c) = cond (ltb c.at (length s)) (bad_form s c.at) (lin
 
 pub record OneRead (given : Line) (bound : ℕ) (r : Line) : Type 0 where
   pub same : r ≡ given
-  pub first-low : (numbers_of r).first ≤ bound - 1
+  pub first_low : (numbers_of r).first ≤ bound - 1

@@ -8,17 +8,17 @@ use native.Mathlib.Omega.{arith}
 use lib.ListN.{length, set}
 use Rattle.answer.specs.Block.{little}
 use Rattle.text.specs.Over.{Wrote, Left}
-use Rattle.answer.proofs.Blocks.{length-little}
-use Rattle.text.proofs.Overs.{left-start, left-store, left_end}
+use Rattle.answer.proofs.Blocks.{length_little}
+use Rattle.text.proofs.Overs.{left_start, left_store, left_end}
 use Rattle.answer.proofs.put_wide.Goals as goal
 
 start : (b : List ℕ) (at n x : ℕ) → at + n ≤ length b → Left b at (little n x) b (at + 0) (little (n - 0) x)
 start b at n x h =
-    rw (add-zero at, sub-zero n) (left-start b at (little n x) (omega (arith, length-little n x)))
+    rw (add-zero at, sub-zero n) (left_start b at (little n x) (omega (arith, length_little n x)))
 
-little-next : (i n x : ℕ) → i < n → little (n - i) x ≡ x % 256 ∷ little (n - (i + 1)) (x / 256)
+little_next : (i n x : ℕ) → i < n → little (n - i) x ≡ x % 256 ∷ little (n - (i + 1)) (x / 256)
 unfolding little
-little-next i n x h =
+little_next i n x h =
     let e : n - i ≡ suc (n - (i + 1)) = omega arith in
     rw e
 
@@ -26,7 +26,7 @@ module _ {b : List ℕ} (at : ℕ) {text block : List ℕ} (i n rest : ℕ) wher
   next : i < n → Left b at text block (at + i) (little (n - i) rest)
       → Left b at text (set block (at + i) (rest % 256)) (at + (i + 1)) (little (n - (i + 1)) (rest / 256))
   next h l =
-      rw (← add_assoc at i 1) (left-store (rest % 256) (little (n - (i + 1)) (rest / 256)) (rw (little-next i n rest h) at l))
+      rw (← add_assoc at i 1) (left_store (rest % 256) (little (n - (i + 1)) (rest / 256)) (rw (little_next i n rest h) at l))
 
   end : i ≡ n → Left b at text block (at + i) (little (n - i) rest) → Wrote b at text block (at + n)
   unfolding little

@@ -1,10 +1,10 @@
 -- `appraise` meets its contract: hard rule, kept byte and cost.
-use Rattle.checker.proofs.Worths.{usable-hard}
+use Rattle.checker.proofs.Worths.{usable_hard}
 use Rattle.checker.proofs.appraise.Goals as goal
 
 pub accepts-accepts-requires : goal.accepts-accepts-requires
 accepts-accepts-requires c =
-    (usable-hard c.args.p c.requires.0, c.requires.0.few, c.requires.1.in-stem, c.requires.1.in-cycle)
+    (usable_hard c.args.p c.requires.0, c.requires.0.few, c.requires.1.in_stem, c.requires.1.in_cycle)
 
 pub returns : goal.returns
 returns c =

@@ -2,7 +2,7 @@
 use Prim.Native.Nat.{◌<◌}
 use native.Mathlib.Omega.{arith}
 use borrow.Author.Rules.{rules}
-use Rattle.checker.proofs.Worths.{usable-soft, bit_kept, bit-left}
+use Rattle.checker.proofs.Worths.{usable_soft, bit_kept, bit_left}
 use Rattle.checker.proofs.kept_of.Goals as goal
 
 inside : (c : goal.After-labels-1) → c.args.i < 8
@@ -16,7 +16,7 @@ bounds-p-i c = inside c
 
 pub accepts-requires : goal.accepts-requires
 accepts-requires c =
-    (usable-soft c.args.p c.requires.0 c.args.i c.requires.2, c.requires.0.few, c.requires.1.in-stem, c.requires.1.in-cycle)
+    (usable_soft c.args.p c.requires.0 c.args.i c.requires.2, c.requires.0.few, c.requires.1.in_stem, c.requires.1.in_cycle)
 
 pub returns-then-accepts : goal.returns-then-accepts
 returns-then-accepts c =
@@ -26,4 +26,4 @@ returns-then-accepts c =
 pub returns : goal.returns
 returns c =
     let a = c.args in
-    bit-left a.p c.requires.0 a.stem.now a.cycle.now a.i a.weight c.requires.2 c.accepts.result c.accepts.ensures c.if-accepts.false
+    bit_left a.p c.requires.0 a.stem.now a.cycle.now a.i a.weight c.requires.2 c.accepts.result c.accepts.ensures c.if-accepts.false

@@ -1,6 +1,6 @@
 -- `read_tour` meets its contract. Where there is no tour nothing is written; where there is one, its lists stand in the text and have
 -- room, and each is written over the front of its buffer.
-use Rattle.drawn.proofs.Drafting.{drawn, stem-stands, cycle-stands, runin-written, loop-written, none_written}
+use Rattle.drawn.proofs.Drafting.{drawn, stem_stands, cycle_stands, runin_written, loop_written, none_written}
 use Rattle.drawn.proofs.read_tour.Goals as goal
 
 pub returns-in_default : goal.returns-in_default
@@ -14,12 +14,12 @@ returns-in_default c =
 
 pub put_list-requires : goal.put_list-requires
 put_list-requires c =
-    let h = stem-stands _ _ _ _ c.line_with-at.ensures _ c.draft_at-draft.ensures _ c.drawn_of-drawn.ensures _ c.in-Tour.is in
+    let h = stem_stands _ _ _ _ c.line_with-at.ensures _ c.draft_at-draft.ensures _ c.drawn_of-drawn.ensures _ c.in-Tour.is in
     record { stands = h.0; count_in_bounds = h.1 }
 
 pub put_list-requires-2 : goal.put_list-requires-2
 put_list-requires-2 c =
-    let h = cycle-stands _ _ _ _ c.line_with-at.ensures _ c.draft_at-draft.ensures _ c.drawn_of-drawn.ensures _ c.in-Tour.is in
+    let h = cycle_stands _ _ _ _ c.line_with-at.ensures _ c.draft_at-draft.ensures _ c.drawn_of-drawn.ensures _ c.in-Tour.is in
     record { stands = h.0; count_in_bounds = h.1 }
 
 pub returns : goal.returns
@@ -28,6 +28,6 @@ returns c =
     let e = c.in-Tour.is in
     record {
       value = drawn _ _ _ _ b _ c.draft_at-draft.ensures _ c.drawn_of-drawn.ensures;
-      runin_after = runin-written _ _ _ _ b _ c.draft_at-draft.ensures _ c.drawn_of-drawn.ensures _ e _ _ c.put_list.ensures;
-      cycle_after = loop-written _ _ _ _ b _ c.draft_at-draft.ensures _ c.drawn_of-drawn.ensures _ e _ _ c.put_list-2.ensures;
+      runin_after = runin_written _ _ _ _ b _ c.draft_at-draft.ensures _ c.drawn_of-drawn.ensures _ e _ _ c.put_list.ensures;
+      cycle_after = loop_written _ _ _ _ b _ c.draft_at-draft.ensures _ c.drawn_of-drawn.ensures _ e _ _ c.put_list-2.ensures;
     }

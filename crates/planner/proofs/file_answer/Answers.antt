@@ -1,8 +1,8 @@
 -- `file_answer` meets its contract: a plan that was read is well formed, and a refusal is told as it is.
 use native.Mathlib.Omega.{arith}
-use Rattle.reader.proofs.Answers.{refused-early}
+use Rattle.reader.proofs.Answers.{refused_early}
 use Rattle.reader.proofs.WellRead.{read_ok}
-use Rattle.promise.proofs.Verdicts.{read_told, refused-told}
+use Rattle.promise.proofs.Verdicts.{read_told, refused_told}
 use Rattle.planner.proofs.file_answer.Goals as goal
 
 pub plan_answer-requires : goal.plan_answer-requires
@@ -11,7 +11,7 @@ plan_answer-requires c =
 
 pub refusal_answer-requires : goal.refusal_answer-requires
 refusal_answer-requires c =
-    omega (arith, refused-early c.args.plan.now _ c.read_plan-reading.ensures _ c.in-Refused.is)
+    omega (arith, refused_early c.args.plan.now _ c.read_plan-reading.ensures _ c.in-Refused.is)
 
 pub returns-in-Plan : goal.returns-in-Plan
 returns-in-Plan c =
@@ -21,4 +21,4 @@ returns-in-Plan c =
 pub returns-in-Refused : goal.returns-in-Refused
 returns-in-Refused c =
     let a = c.args in
-    refused-told a.plan.now _ c.read_plan-reading.ensures a.runin.now a.cycle.now _ _ c.in-Refused.is c.refusal_answer.ensures
+    refused_told a.plan.now _ c.read_plan-reading.ensures a.runin.now a.cycle.now _ _ c.in-Refused.is c.refusal_answer.ensures

@@ -1,6 +1,6 @@
 -- `read_answer` meets its contract. On a refusal nothing is written; where a record was read, its lists stand in the text and have
 -- room, and each is written over the front of its buffer.
-use Rattle.readback.proofs.Judging.{replied, stem-stands, cycle-stands, runin-written, loop-written, none_written}
+use Rattle.readback.proofs.Judging.{replied, stem_stands, cycle_stands, runin_written, loop_written, none_written}
 use Rattle.readback.proofs.read_answer.Goals as goal
 
 pub returns-in_default : goal.returns-in_default
@@ -10,12 +10,12 @@ returns-in_default c =
 
 pub put_list-requires : goal.put_list-requires
 put_list-requires c =
-    let h = stem-stands _ _ _ _ c.read_lines-draft.ensures _ c.reply_of-reply.ensures _ c.in-Read.is in
+    let h = stem_stands _ _ _ _ c.read_lines-draft.ensures _ c.reply_of-reply.ensures _ c.in-Read.is in
     record { stands = h.0; count_in_bounds = h.1 }
 
 pub put_list-requires-2 : goal.put_list-requires-2
 put_list-requires-2 c =
-    let h = cycle-stands _ _ _ _ c.read_lines-draft.ensures _ c.reply_of-reply.ensures _ c.in-Read.is in
+    let h = cycle_stands _ _ _ _ c.read_lines-draft.ensures _ c.reply_of-reply.ensures _ c.in-Read.is in
     record { stands = h.0; count_in_bounds = h.1 }
 
 pub returns : goal.returns
@@ -23,6 +23,6 @@ returns c =
     let e = c.in-Read.is in
     record {
       value = replied _ _ _ _ c.read_lines-draft.ensures _ c.reply_of-reply.ensures;
-      runin_after = runin-written _ _ _ _ c.read_lines-draft.ensures _ c.reply_of-reply.ensures _ e _ _ c.put_list.ensures;
-      cycle_after = loop-written _ _ _ _ c.read_lines-draft.ensures _ c.reply_of-reply.ensures _ e _ _ c.put_list-2.ensures;
+      runin_after = runin_written _ _ _ _ c.read_lines-draft.ensures _ c.reply_of-reply.ensures _ e _ _ c.put_list.ensures;
+      cycle_after = loop_written _ _ _ _ c.read_lines-draft.ensures _ c.reply_of-reply.ensures _ e _ _ c.put_list-2.ensures;
     }

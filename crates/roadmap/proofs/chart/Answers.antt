@@ -2,7 +2,7 @@
 use Prim.Native.Nat.{ℕ}
 use native.Mathlib.Omega.{arith}
 use lib.ListN.{length-replicate}
-use Rattle.roadmap.proofs.Charts.{charted-by}
+use Rattle.roadmap.proofs.Charts.{charted_by}
 use Rattle.roadmap.proofs.chart.Goals as goal
 
 pub mark_roads-requires : goal.mark_roads-requires
@@ -16,4 +16,4 @@ park_all-requires c =
 
 pub returns : goal.returns
 returns c =
-    charted-by c.args.p c.args.at c.requires.0 c.args.table.now _ _ _ c.mark_roads.ensures.0 c.mark_roads.ensures.1 c.park_all.ensures
+    charted_by c.args.p c.args.at c.requires.0 c.args.table.now _ _ _ c.mark_roads.ensures.0 c.mark_roads.ensures.1 c.park_all.ensures

@@ -4,7 +4,7 @@ use Prim.Native.Nat.{ℕ, ◌<◌}
 use native.Mathlib.Omega.{arith}
 use lib.ListN.{length, get_or}
 use Rattle.base.specs.Marks.{marks}
-use Rattle.base.proofs.Marks.{marks-length, mark-next}
+use Rattle.base.proofs.Marks.{marks_length, mark_next}
 use Rattle.roadmap.specs.Chart.{road_cell}
 use Rattle.roadmap.proofs.mark_roads.Goals as goal
 
@@ -53,9 +53,9 @@ loop-i-preserved c =
     let l = c.loop-i in
     let cell = road_cell a.from.now a.to.now a.at in
     let left : ℕ → ℕ = λ k. get_or a.from.now k 0 in
-    let next = mark-next cell l.i a.table.now l.table _ _ l.invariant.0 refl refl in
-    let out = mark-next left l.i a.exits.now l.exits _ _ l.invariant.1 refl refl in
-    (next, out, omega arith, ap length next ∙ marks-length cell _ a.table.now, ap length out ∙ marks-length left _ a.exits.now)
+    let next = mark_next cell l.i a.table.now l.table _ _ l.invariant.0 refl refl in
+    let out = mark_next left l.i a.exits.now l.exits _ _ l.invariant.1 refl refl in
+    (next, out, omega arith, ap length next ∙ marks_length cell _ a.table.now, ap length out ∙ marks_length left _ a.exits.now)
 
 pub returns : goal.returns
 returns c =

@@ -3,7 +3,7 @@ use mathlib.Core.Path.{◌≡◌, refl, ap, ◌∙◌}
 use native.Mathlib.Omega.{arith}
 use lib.ListN.{length}
 use Rattle.base.specs.Marks.{marks}
-use Rattle.base.proofs.Marks.{marks-length, mark-next}
+use Rattle.base.proofs.Marks.{marks_length, mark_next}
 use Rattle.roadmap.specs.Chart.{park_cell, no_exit}
 use Rattle.roadmap.proofs.park_all.Goals as goal
 
@@ -17,8 +17,8 @@ loop-u-preserved c =
     let l = c.loop-u in
     let same : length l.table ≡ length a.table.now = l.invariant.2 in
     let cell = park_cell (no_exit a.exits.now) a.at (length a.table.now) in
-    let next = mark-next cell l.u a.table.now l.table _ _ l.invariant.0 refl (c.park.ensures ∙ rw same refl) in
-    (next, omega arith, ap length next ∙ marks-length cell _ a.table.now)
+    let next = mark_next cell l.u a.table.now l.table _ _ l.invariant.0 refl (c.park.ensures ∙ rw same refl) in
+    (next, omega arith, ap length next ∙ marks_length cell _ a.table.now)
 
 pub returns : goal.returns
 returns c =

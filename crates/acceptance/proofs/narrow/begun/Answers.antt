@@ -9,4 +9,4 @@ pub overflow_cast-ends : goal.overflow_cast-ends
 overflow_cast-ends c = search (rules, one_byte c.args.q c.args.n c.one-ends.result c.requires c.if-q-n.true c.one-ends.ensures.0)
 
 pub returns-then-q-n : goal.returns-then-q-n
-returns-then-q-n c = record { own = λ l. c.one-ends.ensures.0; own-good = λ l. ap (λ m. bit_and m c.args.accept) c.one-ends.ensures.0 }
+returns-then-q-n c = record { own = λ l. c.one-ends.ensures.0; own_good = λ l. ap (λ m. bit_and m c.args.accept) c.one-ends.ensures.0 }

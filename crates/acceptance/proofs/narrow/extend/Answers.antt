@@ -2,16 +2,16 @@
 use mathlib.Core.Path.{◌≡◌, refl}
 use native.Mathlib.Omega.{arith}
 use lib.ListN.{length-set}
-use Rattle.acceptance.proofs.Tabling.{extended-start, extended-put}
+use Rattle.acceptance.proofs.Tabling.{extended_start, extended_put}
 use Rattle.acceptance.proofs.narrow.extend.Goals as goal
 
 pub loop-x-init : goal.loop-x-init
-loop-x-init c = let a = c.args in (extended-start a.at a.size a.next a.sets.now, omega arith, c.requires, refl)
+loop-x-init c = let a = c.args in (extended_start a.at a.size a.next a.sets.now, omega arith, c.requires, refl)
 
 pub loop-x-preserved : goal.loop-x-preserved
 loop-x-preserved c =
     let l = c.loop-x in
-    (extended-put l.invariant.0 c.loop-x-test.true (omega arith), omega arith, rw length-set l.invariant.2, rw length-set l.invariant.3)
+    (extended_put l.invariant.0 c.loop-x-test.true (omega arith), omega arith, rw length-set l.invariant.2, rw length-set l.invariant.3)
 
 pub returns : goal.returns
 returns c =

@@ -4,7 +4,7 @@ use Prim.Native.Nat.{◌+◌, ◌<◌}
 use native.Mathlib.Omega.{arith}
 use borrow.Author.Rules.{rules}
 use lib.ListN.{get_or}
-use Rattle.acceptance.proofs.Courses.{one_byte, byte, looked, ending-start, ending-step, ending-end}
+use Rattle.acceptance.proofs.Courses.{one_byte, byte, looked, ending_start, ending_step, ending_end}
 use Rattle.acceptance.proofs.narrow.follow.Goals as goal
 
 pub overflow_cast-reached : goal.overflow_cast-reached
@@ -15,7 +15,7 @@ overflow_cast-reached c =
 pub loop-i-init : goal.loop-i-init
 loop-i-init c =
     let a = c.args in
-    (ending-start a.steps.now a.n c.requires.1 c.requires.4 a.list.now a.first c.one-reached.result c.requires.3 c.one-reached.ensures.0, omega arith)
+    (ending_start a.steps.now a.n c.requires.1 c.requires.4 a.list.now a.first c.one-reached.result c.requires.3 c.one-reached.ensures.0, omega arith)
 
 pub row_of-at-requires : goal.row_of-at-requires
 row_of-at-requires c = omega (arith, c.requires.6 c.loop-i.i, c.requires.2)
@@ -40,7 +40,7 @@ loop-i-preserved c =
     let a = c.args in
     let l = c.loop-i in
     let v = get_or a.list.now l.i 0 in (
-      ending-step a.steps.now a.n c.requires.1 c.requires.4 a.list.now a.first l.i l.reached _ (omega arith) l.invariant.0
+      ending_step a.steps.now a.n c.requires.1 c.requires.4 a.list.now a.first l.i l.reached _ (omega arith) l.invariant.0
           (looked a.steps.now a.n c.requires.1 c.requires.4 a.places v l.reached _ a.sets.now (c.requires.6 l.i) c.requires.5 l.invariant.0.small
           (ap (λ c. get_or a.sets.now (c + l.reached) 0) c.row_of-at.ensures.0)),
       omega arith,
@@ -50,4 +50,4 @@ pub returns : goal.returns
 returns c =
     let a = c.args in
     let l = c.loop-i in
-    ending-end a.steps.now a.n c.requires.1 c.requires.4 a.list.now a.first l.i l.reached (omega (arith, l.invariant.1)) l.invariant.0
+    ending_end a.steps.now a.n c.requires.1 c.requires.4 a.list.now a.first l.i l.reached (omega (arith, l.invariant.1)) l.invariant.0

@@ -5,7 +5,7 @@ use native.Mathlib.Omega.{arith}
 use lib.ListN.{length-set}
 use Rattle.base.specs.Bits.{has_bit}
 use Rattle.acceptance.specs.Table.{step_in, Marked, Turned}
-use Rattle.acceptance.proofs.Words.{word_none, turned_none, turned-put}
+use Rattle.acceptance.proofs.Words.{word_none, turned_none, turned_put}
 use Rattle.acceptance.proofs.tour.begin.Goals as goal
 
 pub loop-q-init : goal.loop-q-init
@@ -17,7 +17,7 @@ loop-q-preserved c =
     let l = c.loop-q in
     let x = word_none (step_in a.steps.now) a.n (has_bit a.accept) l.q c.one.result c.marked.result (omega arith) c.one.ensures.0
     (subst (λ b. Marked c.one.result b c.marked.result) c.has.ensures c.marked.ensures) in (
-      turned-put a.steps.now a.n a.accept [] l.rows l.q c.marked.result l.invariant.0 (omega (arith, l.invariant.3)) x,
+      turned_put a.steps.now a.n a.accept [] l.rows l.q c.marked.result l.invariant.0 (omega (arith, l.invariant.3)) x,
       omega arith,
       l.invariant.2,
       length-set l.rows l.q c.marked.result ∙ l.invariant.3,

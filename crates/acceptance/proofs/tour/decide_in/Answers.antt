@@ -1,6 +1,6 @@
 -- `decide_in` meets its contract: run-in, turn and closure together.
 use Rattle.acceptance.proofs.Gathers.{narrower}
-use Rattle.acceptance.proofs.Deciding.{entered-few, decides}
+use Rattle.acceptance.proofs.Deciding.{entered_few, decides}
 use Rattle.acceptance.proofs.tour.decide_in.Goals as goal
 
 pub follow-set-requires : goal.follow-set-requires
@@ -10,6 +10,6 @@ follow-set-requires c =
 pub returns : goal.returns
 returns c =
     let a = c.args in
-    let x = entered-few a.steps.now a.n a.first c.one.result c.follow-set.result a.stem.now c.requires.1 c.requires.2 c.requires.0 c.one.ensures.0 c.follow-set.ensures.0 in
+    let x = entered_few a.steps.now a.n a.first c.one.result c.follow-set.result a.stem.now c.requires.1 c.requires.2 c.requires.0 c.one.ensures.0 c.follow-set.ensures.0 in
     decides a.steps.now a.n a.first a.accept a.stem.now a.cycle.now _ c.requires.1 c.requires.2 c.requires.0 c.turn.ensures c.follow-set.result x
     c.close_up.result c.close_up.ensures

@@ -2,7 +2,7 @@
 use mathlib.Core.Path.{refl, sym, subst, ◌∙◌}
 use native.Mathlib.Omega.{arith}
 use Rattle.acceptance.specs.Table.{related, Linked}
-use Rattle.acceptance.proofs.Links.{linked-pass}
+use Rattle.acceptance.proofs.Links.{linked_pass}
 use Rattle.acceptance.proofs.tour.link.Goals as goal
 
 pub loop-k-init : goal.loop-k-init
@@ -14,7 +14,7 @@ pub loop-k-preserved : goal.loop-k-preserved
 loop-k-preserved c =
     let a = c.args in
     let l = c.loop-k in (
-      linked-pass (related a.rows.now) a.n l.k _ l.links _ l.invariant.2 (omega arith) refl l.invariant.0 c.through.ensures,
+      linked_pass (related a.rows.now) a.n l.k _ l.links _ l.invariant.2 (omega arith) refl l.invariant.0 c.through.ensures,
       omega arith,
       l.invariant.2,
       omega (arith, c.through.auto, l.invariant.3),

@@ -5,7 +5,7 @@ use borrow.Author.Rules.{rules}
 use lib.ListN.{drop, length-set}
 use Rattle.acceptance.specs.Table.{Turned}
 use Rattle.acceptance.proofs.Gathers.{narrower}
-use Rattle.acceptance.proofs.Words.{word-before, turned_none, turned-put}
+use Rattle.acceptance.proofs.Words.{word_before, turned_none, turned_put}
 use Rattle.acceptance.proofs.tour.put_before.Goals as goal
 
 pub row-at-requires : goal.row-at-requires
@@ -25,9 +25,9 @@ loop-q-preserved c =
     let a = c.args in
     let l = c.loop-q in
     let r = c.row-at in
-    let x = word-before a.steps.now a.n a.accept a.cycle.now a.old.now a.i l.q r.result _ c.gather-next.result c.marked.result
+    let x = word_before a.steps.now a.n a.accept a.cycle.now a.old.now a.i l.q r.result _ c.gather-next.result c.marked.result
     c.requires.2 c.requires.4 c.requires.5 r.ensures.0 refl (c.requires.1.narrow _) c.gather-next.ensures c.has.ensures c.marked.ensures in (
-      turned-put a.steps.now a.n a.accept (drop a.i a.cycle.now) l.rows l.q c.marked.result l.invariant.0 (omega (arith, l.invariant.2, c.requires.2)) x,
+      turned_put a.steps.now a.n a.accept (drop a.i a.cycle.now) l.rows l.q c.marked.result l.invariant.0 (omega (arith, l.invariant.2, c.requires.2)) x,
       omega arith,
       length-set l.rows l.q c.marked.result ∙ l.invariant.2,
     )

@@ -3,17 +3,17 @@ use mathlib.Core.Path.{sym, subst, ◌∙◌}
 use native.Mathlib.Omega.{arith}
 use lib.ListN.{length-set}
 use Rattle.acceptance.specs.Table.{related, Linked}
-use Rattle.acceptance.proofs.Links.{linked-none, linked-put}
+use Rattle.acceptance.proofs.Links.{linked_none, linked_put}
 use Rattle.acceptance.proofs.tour.single.Goals as goal
 
 pub loop-q-init : goal.loop-q-init
-loop-q-init c = (linked-none c.args.rows.now c.args.links.now, omega arith, c.requires.0, c.requires.1)
+loop-q-init c = (linked_none c.args.rows.now c.args.links.now, omega arith, c.requires.0, c.requires.1)
 
 pub loop-q-preserved : goal.loop-q-preserved
 loop-q-preserved c =
     let a = c.args in
     let l = c.loop-q in (
-      linked-put a.rows.now l.links l.q c.one.result l.invariant.0 (omega (arith, l.invariant.3)) c.one.ensures.0,
+      linked_put a.rows.now l.links l.q c.one.result l.invariant.0 (omega (arith, l.invariant.3)) c.one.ensures.0,
       omega arith,
       l.invariant.2,
       length-set l.links l.q _ ∙ l.invariant.3,

@@ -3,7 +3,7 @@ use mathlib.Core.Path.{refl, sym, ap, ◌∙◌}
 use native.Mathlib.Omega.{arith}
 use Rattle.base.specs.Below.{any_below}
 use Rattle.acceptance.specs.Table.{returning}
-use Rattle.base.proofs.Tests.{any-intro, any-suc}
+use Rattle.base.proofs.Tests.{any_intro, any_suc}
 use Rattle.acceptance.proofs.tour.some_comes_back.Goals as goal
 
 pub loop-s-init : goal.loop-s-init
@@ -13,12 +13,12 @@ loop-s-init c = (refl, omega arith)
 pub returns-then-comes_back : goal.returns-then-comes_back
 returns-then-comes_back c =
     let a = c.args in
-    sym (any-intro (returning a.rows.now a.links.now a.set) a.n c.loop-s.s (omega arith) (sym c.comes_back.ensures ∙ c.if-comes_back.true))
+    sym (any_intro (returning a.rows.now a.links.now a.set) a.n c.loop-s.s (omega arith) (sym c.comes_back.ensures ∙ c.if-comes_back.true))
 
 pub loop-s-preserved : goal.loop-s-preserved
 loop-s-preserved c =
     let a = c.args in
-    (any-suc (returning a.rows.now a.links.now a.set) c.loop-s.s c.loop-s.invariant.0 (sym c.comes_back.ensures ∙ c.if-comes_back.false), omega arith)
+    (any_suc (returning a.rows.now a.links.now a.set) c.loop-s.s c.loop-s.invariant.0 (sym c.comes_back.ensures ∙ c.if-comes_back.false), omega arith)
 
 pub returns : goal.returns
 returns c =

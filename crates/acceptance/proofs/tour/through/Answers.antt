@@ -3,7 +3,7 @@ use mathlib.Core.Path.{sym, subst, ◌∙◌}
 use native.Mathlib.Omega.{arith}
 use lib.ListN.{length-set}
 use Rattle.acceptance.specs.Table.{Passed}
-use Rattle.acceptance.proofs.Links.{passed_start, passed-put}
+use Rattle.acceptance.proofs.Links.{passed_start, passed_put}
 use Rattle.acceptance.proofs.tour.through.Goals as goal
 
 pub loop-q-init : goal.loop-q-init
@@ -13,7 +13,7 @@ pub loop-q-preserved : goal.loop-q-preserved
 loop-q-preserved c =
     let a = c.args in
     let l = c.loop-q in (
-      passed-put a.k a.mid a.links.now l.q c.passed.result l.links l.invariant.0 (omega (arith, l.invariant.4)) c.passed.ensures,
+      passed_put a.k a.mid a.links.now l.q c.passed.result l.links l.invariant.0 (omega (arith, l.invariant.4)) c.passed.ensures,
       omega arith,
       l.invariant.2,
       l.invariant.3,

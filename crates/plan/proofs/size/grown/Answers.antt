@@ -2,11 +2,11 @@
 use mathlib.Core.Path.{◌≡◌}
 use Prim.Native.Nat.{◌*◌}
 use native.Mathlib.Omega.{arith}
-use Rattle.plan.proofs.Products.{product-fits}
+use Rattle.plan.proofs.Products.{product_fits}
 use Rattle.plan.proofs.size.grown.Goals as goal
 
 pub overflow_mul-w : goal.overflow_mul-w
-overflow_mul-w c = record { fits = product-fits _ _ (omega (arith, c.requires.0, c.wide.ensures.0)) c.requires.1 }
+overflow_mul-w c = record { fits = product_fits _ _ (omega (arith, c.requires.0, c.wide.ensures.0)) c.requires.1 }
 
 pub returns-then-w-lt2049 : goal.returns-then-w-lt2049
 returns-then-w-lt2049 c =

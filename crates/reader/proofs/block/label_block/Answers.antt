@@ -1,12 +1,12 @@
 -- `label_block` meets its contract. The loop keeps that the labels read so far and the lines still to be read make up the block.
 use native.Mathlib.Omega.{arith}
-use Rattle.reader.proofs.Filling.{rest-step, rest_end}
-use Rattle.reader.proofs.Steps.{labels-start, label-step}
+use Rattle.reader.proofs.Filling.{rest_step, rest_end}
+use Rattle.reader.proofs.Steps.{labels_start, label-step}
 use borrow.Author.Rules.{rules}
 use Rattle.reader.proofs.block.label_block.Goals as goal
 
 pub loop-i-init : goal.loop-i-init
-loop-i-init c = record { within = omega arith; room = search rules; bytes = search rules; same = labels-start _ _ _ _ }
+loop-i-init c = record { within = omega arith; room = search rules; bytes = search rules; same = labels_start _ _ _ _ }
 
 pub loop-i-preserved : goal.loop-i-preserved
 loop-i-preserved c =
@@ -15,7 +15,7 @@ loop-i-preserved c =
       within = omega arith;
       room = l.invariant.room;
       bytes = l.invariant.bytes;
-      same = rest-step _ _ _ _ _ l.invariant.same c.loop-i-test.true _
+      same = rest_step _ _ _ _ _ l.invariant.same c.loop-i-test.true _
           (label-step _ _ _ _ _ l.labels _ c.line_of_one-line.ensures.same c.first_of.ensures);
     }
 

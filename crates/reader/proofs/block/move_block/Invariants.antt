@@ -10,8 +10,8 @@ use Rattle.reader.proofs.block.move_block.Given as goal
 pub record Read (s : List ℕ) (n states labels : ℕ) (prior line : Line) (from need bar any to : List ℕ) (i : ℕ) : Type 0 where
   pub within : i ≤ n
   pub room : n ≤ 64
-  pub state-bytes : states ≤ 256
-  pub label-bytes : labels ≤ 256
+  pub state_bytes : states ≤ 256
+  pub label_bytes : labels ≤ 256
   pub same : move_block s prior n states labels ≡ rest n (move_step s states labels) i (moves_in line from need bar any to)
 
 abbrev pub invariant-loop-i : goal.invariant-loop-i

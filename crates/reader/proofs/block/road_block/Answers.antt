@@ -4,9 +4,9 @@ use mathlib.Core.Path.{◌∙◌}
 use native.Mathlib.Omega.{arith}
 use lib.ListN.{replicate}
 use Rattle.reader.proofs.Lines.{byte}
-use Rattle.reader.proofs.Filling.{rest-step, rest_end}
-use Rattle.reader.proofs.Steps.{roads-start, road-step}
-use Rattle.reader.proofs.Noting.{noted-start, noted-after, road-by}
+use Rattle.reader.proofs.Filling.{rest_step, rest_end}
+use Rattle.reader.proofs.Steps.{roads_start, road-step}
+use Rattle.reader.proofs.Noting.{noted_start, noted_after, road_by}
 use borrow.Author.Rules.{rules}
 use Rattle.reader.proofs.block.road_block.Goals as goal
 
@@ -15,20 +15,20 @@ loop-i-init c = record {
   within = omega arith;
   room = search rules;
   bytes = search rules;
-  from-room = search rules;
+  from_room = search rules;
   to_room = search rules;
-  pairs-room = search rules;
-  noted = λ e. noted-start c.args.prior (replicate 1024 0) (replicate 1024 0);
-  same = roads-start _ _ _ _;
+  pairs_room = search rules;
+  noted = λ e. noted_start c.args.prior (replicate 1024 0) (replicate 1024 0);
+  same = roads_start _ _ _ _;
 }
 
 pub overflow_cast-from : goal.overflow_cast-from
 overflow_cast-from c =
-    record { fits = byte (λ xs. xs.first) _ _ _ c.numbers_of-xs.ensures c.road_line-line.ensures.first-low (omega (arith, c.loop-i.invariant.bytes)) }
+    record { fits = byte (λ xs. xs.first) _ _ _ c.numbers_of-xs.ensures c.road_line-line.ensures.first_low (omega (arith, c.loop-i.invariant.bytes)) }
 
 pub overflow_cast-to : goal.overflow_cast-to
 overflow_cast-to c =
-    record { fits = byte (λ xs. xs.second) _ _ _ c.numbers_of-xs.ensures c.road_line-line.ensures.second-low (omega (arith, c.loop-i.invariant.bytes)) }
+    record { fits = byte (λ xs. xs.second) _ _ _ c.numbers_of-xs.ensures c.road_line-line.ensures.second_low (omega (arith, c.loop-i.invariant.bytes)) }
 
 pub loop-i-preserved : goal.loop-i-preserved
 loop-i-preserved c =
@@ -37,12 +37,12 @@ loop-i-preserved c =
       within = omega arith;
       room = l.invariant.room;
       bytes = l.invariant.bytes;
-      from-room = search rules;
+      from_room = search rules;
       to_room = search rules;
-      pairs-room = search rules;
-      noted = noted-after _ _ _ _ _ _ l.from l.to _ _ _ _ l.invariant.bytes l.invariant.noted l.invariant.pairs-room (omega arith) (omega arith) r c.numbers_of-xs.ensures;
-      same = rest-step _ _ _ _ _ l.invariant.same c.loop-i-test.true _
-          (road-step _ _ _ _ _ l.from l.to _ (r.same ∙ road-by _ _ _ _ _ _ l.invariant.bytes l.invariant.noted) c.numbers_of-xs.ensures);
+      pairs_room = search rules;
+      noted = noted_after _ _ _ _ _ _ l.from l.to _ _ _ _ l.invariant.bytes l.invariant.noted l.invariant.pairs_room (omega arith) (omega arith) r c.numbers_of-xs.ensures;
+      same = rest_step _ _ _ _ _ l.invariant.same c.loop-i-test.true _
+          (road-step _ _ _ _ _ l.from l.to _ (r.same ∙ road_by _ _ _ _ _ _ l.invariant.bytes l.invariant.noted) c.numbers_of-xs.ensures);
     }
 
 pub returns : goal.returns

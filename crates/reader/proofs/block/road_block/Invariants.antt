@@ -15,9 +15,9 @@ pub record Read (s : List ℕ) (n bound : ℕ) (prior line : Line) (from to pair
   pub within : i ≤ n
   pub room : n ≤ 1024
   pub bytes : bound ≤ 128
-  pub from-room : length from ≡ 1024
+  pub from_room : length from ≡ 1024
   pub to_room : length to ≡ 1024
-  pub pairs-room : length pairs ≡ 512
+  pub pairs_room : length pairs ≡ 512
   pub noted : good line ≡ true → Noted pairs (earlier (roads_in line from to) i)
   pub same : road_block s prior n bound ≡ rest n (road_step s bound) i (roads_in line from to)
 

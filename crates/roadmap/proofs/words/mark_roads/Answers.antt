@@ -12,7 +12,7 @@ loop-i-init c =
     record {
       few = omega arith;
       long = refl;
-      long-back = refl;
+      long_back = refl;
       forth = listed_start a.from.now a.to.now a.roads.now;
       back = listed_start a.to.now a.from.now a.broads.now;
     }
@@ -27,7 +27,7 @@ pub add_road-requires-in-loop-i : goal.add_road-requires-in-loop-i
 add_road-requires-in-loop-i c =
     let ends : (c.wide-a.result < 128) × (c.wide-b.result < 128) = let i = c.loop-i.i in
     (omega (arith, c.wide-a.ensures, c.requires.3 i), omega (arith, c.wide-b.ensures, c.requires.4 i)) in
-    (omega (arith, c.requires.2, c.loop-i.invariant.long-back), omega (arith, ends), omega (arith, ends))
+    (omega (arith, c.requires.2, c.loop-i.invariant.long_back), omega (arith, ends), omega (arith, ends))
 
 pub loop-i-preserved : goal.loop-i-preserved
 loop-i-preserved c =
@@ -39,7 +39,7 @@ loop-i-preserved c =
     record {
       few = omega (arith, c.loop-i-test.true);
       long = omega (arith, g.long, c.add_road.auto);
-      long-back = omega (arith, g.long-back, c.add_road-in-loop-i.auto);
+      long_back = omega (arith, g.long_back, c.add_road-in-loop-i.auto);
       forth = listed_next a.from.now a.to.now a.roads.now l.i _ _ g.forth from to c.add_road.ensures;
       back = listed_next a.to.now a.from.now a.broads.now l.i _ _ g.back to from c.add_road-in-loop-i.ensures;
     }

@@ -44,14 +44,14 @@ module _ (s : List ℕ) (at : ℕ) (key : List ℕ) where
   unfolding key_at
   other_key e = rw e
 
-  key-read : starts_with key (drop at s) ≡ true → (i : ℕ) → i ≡ at + length key → Value 0 i ≡ key_at s at key
+  key_read : starts_with key (drop at s) ≡ true → (i : ℕ) → i ≡ at + length key → Value 0 i ≡ key_at s at key
   unfolding key_at
-  key-read e i k = rw (e, k)
+  key_read e i k = rw (e, k)
 
 pub returns-then-key-eq0 : goal.returns-then-key-eq0
 returns-then-key-eq0 c =
     let a = c.args in
-    key-read _ _ _ (passed a.s.now a.key.now a.at 0 (omega (arith, c.if-key-eq0.true))) _ (omega (arith, c.if-key-eq0.true))
+    key_read _ _ _ (passed a.s.now a.key.now a.at 0 (omega (arith, c.if-key-eq0.true))) _ (omega (arith, c.if-key-eq0.true))
 
 pub returns-then-s-key : goal.returns-then-s-key
 returns-then-s-key c =
@@ -109,4 +109,4 @@ overflow_add-result c = search (rules, c.loop-j.invariant.room)
 pub returns : goal.returns
 returns c =
     let l = c.loop-j in let a = c.args in
-    key-read _ _ _ (l.invariant.same ∙ passed _ _ (a.at + l.j) l.j c.loop-j-test.false) _ refl
+    key_read _ _ _ (l.invariant.same ∙ passed _ _ (a.at + l.j) l.j c.loop-j-test.false) _ refl

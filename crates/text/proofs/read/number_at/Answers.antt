@@ -7,7 +7,7 @@ use Prim.Native.Nat.{ℕ, ◌+◌, ◌-◌, ◌<◌}
 use native.Mathlib.Omega.{arith}
 use lib.ListN.{length, drop, get_or}
 use Rattle.text.specs.Scan.{is_digit, digit_count}
-use Rattle.text.proofs.Scans.{digit-range, none-past, none_here, value-here, digit-count-more, held-value, ends-text, ends-otherwise, not-canonical, number_read}
+use Rattle.text.proofs.Scans.{digit_range, none_past, none_here, value_here, digit_count_more, held_value, ends_text, ends_otherwise, not_canonical, number_read}
 use Rattle.text.proofs.read.number_at.Goals as goal
 
 -- where the byte is no digit, the digits passed are all that stand there
@@ -17,23 +17,23 @@ passed s at i count h other = omega (arith, count, none_here s i h other)
 
 pub returns-then-b-end : goal.returns-then-b-end
 returns-then-b-end c =
-    ends-otherwise c.args.s.now _ c.loop-i.i _ c.loop-i.invariant.from (passed c.args.s.now c.args.at c.loop-i.i c.loop-i.invariant.count c.loop-i-test.true (sym c.digit.ensures ∙ c.if-not-digit.true)) c.loop-i-test.true c.if-b-end.true
+    ends_otherwise c.args.s.now _ c.loop-i.i _ c.loop-i.invariant.from (passed c.args.s.now c.args.at c.loop-i.i c.loop-i.invariant.count c.loop-i-test.true (sym c.digit.ensures ∙ c.if-not-digit.true)) c.loop-i-test.true c.if-b-end.true
 
 pub returns-then-canonical : goal.returns-then-canonical
 returns-then-canonical c =
     let s = c.args.s.now in
     let h = c.loop-i-test.true in
-    let v = value-here s c.loop-i.i h (sym c.digit.ensures ∙ c.if-not-digit.true) c.loop-i.v in
+    let v = value_here s c.loop-i.i h (sym c.digit.ensures ∙ c.if-not-digit.true) c.loop-i.v in
     number_read s _ c.loop-i.i _ c.loop-i.invariant.from (passed c.args.s.now c.args.at c.loop-i.i c.loop-i.invariant.count c.loop-i-test.true (sym c.digit.ensures ∙ c.if-not-digit.true)) h c.if-b-end.false (sym c.canonical.ensures ∙ c.if-canonical.true) _
     (omega (arith, c.loop-i.invariant.held, c.loop-i.invariant.small))
 
 pub returns-then-not-digit : goal.returns-then-not-digit
 returns-then-not-digit c =
-    not-canonical c.args.s.now _ c.loop-i.i _ c.loop-i.invariant.from (passed c.args.s.now c.args.at c.loop-i.i c.loop-i.invariant.count c.loop-i-test.true (sym c.digit.ensures ∙ c.if-not-digit.true)) c.loop-i-test.true c.if-b-end.false
+    not_canonical c.args.s.now _ c.loop-i.i _ c.loop-i.invariant.from (passed c.args.s.now c.args.at c.loop-i.i c.loop-i.invariant.count c.loop-i-test.true (sym c.digit.ensures ∙ c.if-not-digit.true)) c.loop-i-test.true c.if-b-end.false
     (sym c.canonical.ensures ∙ c.if-canonical.false)
 
 pub append_digit-v-requires : goal.append_digit-v-requires
-append_digit-v-requires c = digit-range _ (sym c.digit.ensures ∙ c.if-not-digit.false)
+append_digit-v-requires c = digit_range _ (sym c.digit.ensures ∙ c.if-not-digit.false)
 
 pub loop-i-preserved : goal.loop-i-preserved
 loop-i-preserved c =
@@ -43,8 +43,8 @@ loop-i-preserved c =
     let d = sym c.digit.ensures ∙ c.if-not-digit.false in
     record {
       from = omega (arith, l.invariant.from);
-      count = omega (arith, l.invariant.count, l.invariant.from, digit-count-more s l.i h d);
-      held = l.invariant.held ∙ held-value s l.i h d 4000000000 l.v ∙ rw (← c.append_digit-v.ensures);
+      count = omega (arith, l.invariant.count, l.invariant.from, digit_count_more s l.i h d);
+      held = l.invariant.held ∙ held_value s l.i h d 4000000000 l.v ∙ rw (← c.append_digit-v.ensures);
       small = omega (arith, c.append_digit-v.ensures);
     }
 
@@ -52,5 +52,5 @@ pub returns : goal.returns
 returns c =
     let l = c.loop-i in
     let s = c.args.s.now in
-    let n = none-past s l.i c.loop-i-test.false in
-    ends-text s _ l.i _ l.invariant.from (omega (arith, l.invariant.count)) c.loop-i-test.false
+    let n = none_past s l.i c.loop-i-test.false in
+    ends_text s _ l.i _ l.invariant.from (omega (arith, l.invariant.count)) c.loop-i-test.false

@@ -8,29 +8,29 @@ use lib.ListN.{length, drop, get_or, drop_of_length-le}
 use Rattle.text.specs.Decimal.{decimal}
 use Rattle.text.specs.Over.{Wrote, Left}
 use Rattle.text.specs.KeyLine.{commaed}
-use Rattle.text.proofs.Overs.{left-start, left-room, left-next, left_end}
-use Rattle.text.proofs.KeyLines.{commaed-next}
+use Rattle.text.proofs.Overs.{left_start, left_room, left_next, left_end}
+use Rattle.text.proofs.KeyLines.{commaed_next}
 use Rattle.text.proofs.write.put_commaed.Goals as goal
 
 module _ {b : List ℕ} {at : ℕ} {text out : List ℕ} {next : ℕ} (numbers : List ℕ) (i : ℕ) where
   module _ (h : i < length numbers) (l : Left b at text out next (commaed (drop i numbers))) where
-    from-comma : Left b at text out next
+    from_comma : Left b at text out next
         ((44 ∷ []) ++ (decimal (get_or numbers i 0) ++ commaed (drop (i + 1) numbers)))
-    from-comma = rw (commaed-next numbers i h) at l
+    from_comma = rw (commaed_next numbers i h) at l
 
-    comma-room : next < length out
-    comma-room = omega (arith, left-room (44 ∷ []) _ from-comma)
+    comma_room : next < length out
+    comma_room = omega (arith, left_room (44 ∷ []) _ from_comma)
 
     module _ {out₁ : List ℕ} {next₁ : ℕ} (comma : Wrote out next (44 ∷ []) out₁ next₁) where
-      from-number : Left b at text out₁ next₁ (decimal (get_or numbers i 0) ++ commaed (drop (i + 1) numbers))
-      from-number = left-next (44 ∷ []) _ from-comma comma
+      from_number : Left b at text out₁ next₁ (decimal (get_or numbers i 0) ++ commaed (drop (i + 1) numbers))
+      from_number = left_next (44 ∷ []) _ from_comma comma
 
-      number-room : next₁ + length (decimal (get_or numbers i 0)) ≤ length out₁
-      number-room = left-room (decimal (get_or numbers i 0)) _ from-number
+      number_room : next₁ + length (decimal (get_or numbers i 0)) ≤ length out₁
+      number_room = left_room (decimal (get_or numbers i 0)) _ from_number
 
       turn : {x : ℕ} {out₂ : List ℕ} {next₂ : ℕ} → x ≡ get_or numbers i 0 → Wrote out₁ next₁ (decimal x) out₂ next₂
           → Left b at text out₂ next₂ (commaed (drop (i + 1) numbers))
-      turn e number = left-next (decimal (get_or numbers i 0)) _ from-number (rw e at number)
+      turn e number = left_next (decimal (get_or numbers i 0)) _ from_number (rw e at number)
 
   end : length numbers ≤ i → Left b at text out next (commaed (drop i numbers)) → Wrote b at text out next
   unfolding commaed
@@ -39,16 +39,16 @@ module _ {b : List ℕ} {at : ℕ} {text out : List ℕ} {next : ℕ} (numbers :
 pub loop-i-init : goal.loop-i-init
 loop-i-init c =
     let a = c.args in
-    (omega arith, left-start a.out.now a.at (commaed a.numbers.now) c.requires)
+    (omega arith, left_start a.out.now a.at (commaed a.numbers.now) c.requires)
 
 pub put_byte-number-requires : goal.put_byte-number-requires
 put_byte-number-requires c =
-    comma-room c.args.numbers.now c.loop-i.i c.loop-i-test.true c.loop-i.invariant.1
+    comma_room c.args.numbers.now c.loop-i.i c.loop-i-test.true c.loop-i.invariant.1
 
 pub put_decimal-next-requires : goal.put_decimal-next-requires
 put_decimal-next-requires c =
     rw c.wide.ensures
-    (number-room c.args.numbers.now c.loop-i.i c.loop-i-test.true c.loop-i.invariant.1 c.put_byte-number.ensures)
+    (number_room c.args.numbers.now c.loop-i.i c.loop-i-test.true c.loop-i.invariant.1 c.put_byte-number.ensures)
 
 pub loop-i-preserved : goal.loop-i-preserved
 loop-i-preserved c = (
