@@ -16,8 +16,9 @@
 //! beyond them. With --trace each case is told before its first call. The first
 //! difference is printed with its case and its plan or text, and the program
 //! ends with 1; without one it ends with 0 after a tally. A run of 20 seconds
-//! and more, not bounded by COUNT, also ends with 1 if something that it should
-//! have met is missing in the tally.
+//! and more, not bounded by COUNT, goes on until it has met all that it should,
+//! for eight times its seconds at most, and ends with 1 if something is missing
+//! in the tally even then.
 //!
 //! With --transcript nothing is compared: what the library answers to the plans
 //! of COUNT cases, from CASE on, is written down with its places, a line for
