@@ -9,7 +9,7 @@ use Prim.Native.Nat.{ℕ, suc, ◌<◌}
 use native.Mathlib.Omega.{arith}
 use lib.ListN.{length}
 use Rattle.automata.specs.Automaton.{step, trap_step, final}
-use Rattle.automata.specs.WellFormed.{Below}
+use Rattle.automata.specs.WellFormed.{ToBelow}
 use Rattle.automata.specs.Acceptance.{Accepting, HardAccepts, SoftAccepts, lasso_at}
 use Rattle.automata.specs.declared.Automaton.{Automaton}
 use Rattle.automata.proofs.Traps.{step_lands, trap_lands}
@@ -42,7 +42,7 @@ module _ (δ : ℕ → ℕ → ℕ → Bool) (label : ℕ → ℕ) {q₀ : ℕ} 
     accepts = A.accepts;
   }
 
-module _ (a : Automaton) (label : ℕ → ℕ) (stem cycle : List ℕ) (first : a.first < a.states) (below : Below a.states a.to) where
+module _ (a : Automaton) (label : ℕ → ℕ) (stem cycle : List ℕ) (first : a.first < a.states) (below : ToBelow a.states a) where
   pub hard_decided : (decided (λ v. step a (label v)) a.states a.first (final a) stem cycle ≡ true)
       ↔ HardAccepts a (λ t. label (lasso_at stem cycle t)) (length stem) (length cycle)
   hard_decided = (

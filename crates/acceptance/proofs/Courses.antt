@@ -3,16 +3,21 @@
 --   looked                    == what the table says of a set
 --   ending-, course_start, -step, -end == before the first place; one place farther; at the loop's end, as a word
 --   going-                    == the same of a state that there may not be
---   worded_turned             == four words more of a turn
-use mathlib.Core.Path.{◌≡◌, refl, sym, ap, ap₂, ◌∙◌}
+--   goings_start, -step, -end == the same of four states at a time
+--   row_whole, row_part       == the part of the sets that belongs to one place
+--   turned_four               == four words more of a turn
+use mathlib.Core.Path.{◌≡◌, refl, sym, ap, ap₂, ◌∙◌, subst}
 use mathlib.Core.Bool.{Bool, true, false, ◌&&◌, ◌||◌, and_comm}
-use mathlib.Core.List.{List}
-use Prim.Native.Nat.{ℕ, suc, ◌+◌, ◌-◌, ◌*◌, ◌^◌, ◌/◌, ◌≤◌, ◌<◌, min}
-use native.Mathlib.Nat.{pow-le-pow_right, pow-suc}
+use mathlib.Core.List.{List, [], ◌∷◌}
+use Prim.Native.Nat.{ℕ, zero, suc, ◌+◌, ◌-◌, ◌*◌, ◌^◌, ◌/◌, ◌≤◌, ◌<◌, min}
+use native.Mathlib.Nat.{pow-le-pow_right}
 use native.Mathlib.Numerals.{add-one}
-use native.Mathlib.Decide.{dec_lt, ℕ_discrete}
+use native.Mathlib.Decide.{dec_lt}
 use native.Mathlib.Omega.{arith}
+use Rattle.std.proofs.Math.Pow.{pow-lt}
 use lib.ListN.{length, get_or, take, drop}
+use Rattle.std.proofs.lemmas.List.{length-take}
+use Rattle.std.proofs.Common.{length-drop}
 use lib.Seq.{drop-cons, drop-length, get_or-take, get_or-drop}
 use lib.Bits.{bit_and, bit_or, and_le_l, or_lt}
 use lib.Arith.{digits_div}
@@ -21,7 +26,8 @@ use Rattle.base.specs.Below.{any_below}
 use Rattle.base.specs.Bits.{bit, has_bit, Members}
 use Rattle.acceptance.specs.Decision.{after}
 use Rattle.acceptance.specs.Table.{step_in, Narrow, Word, Turned}
-use Rattle.acceptance.specs.Sets.{met_after, led_by, Tabled, Begun, Ending, Course, Going, Worded, Stored, StoredFour}
+use Rattle.acceptance.specs.Sets.{met_after, led_by, Tabled, Begun, Ending, Course, Going, Worded}
+use Rattle.acceptance.specs.declared.narrow.Reach.{Reach}
 use Rattle.base.proofs.Tests.{bool_same, any_intro, any_elim, and_left, and_right}
 use Rattle.base.proofs.Bits.{bit_block, bit_div}
 use Rattle.base.proofs.Members.{has_or, has_and, members_one, members_lt}
@@ -30,19 +36,8 @@ use Rattle.acceptance.proofs.Following.{after_same}
 use Rattle.acceptance.proofs.Forward.{met_same, after_turn, met_meet}
 use Rattle.acceptance.proofs.Deciding.{narrow_lands}
 
-power_lt : (q n : ℕ) → q < n → 2 ^ q < 2 ^ n
-power_lt q n l =
-    let e : 2 ^ suc q ≤ 2 ^ n = pow-le-pow_right (omega arith) {i = suc q} {j = n} l in
-    let d : 2 ^ suc q ≡ 2 ^ q + 2 ^ q = omega (arith, pow_suc' q) in
-    let p : 1 ≤ 2 ^ q = pow-le-pow_right (omega arith) {i = 0} {j = q} (omega arith) in
-    omega (arith, e, d, p)
-  where
-    pow_suc' : (q : ℕ) → 2 ^ suc q ≡ 2 ^ q * 2
-    pow_suc' q = rw pow-suc
-
--- the set of one state of at most eight is a byte
-pub one_byte : (q n one : ℕ) → n ≤ 8 → q < n → one ≡ 2 ^ q → one < 256
-one_byte q n one few l e = rw e (power_lt q 8 (omega arith))
+abbrev pub nowhere : Reach
+nowhere = record { ends = 0; good = 0 }
 
 module _ (steps : List ℕ) (n : ℕ) (few : n ≤ 8) (narrow : Narrow n steps) where
   pub led_below : (v x r : ℕ) → x < 2 ^ n → led_by steps v x r ≡ any_below n (λ q. has_bit x q && step_in steps v q r)
@@ -80,7 +75,7 @@ module _ (steps : List ℕ) (n : ℕ) (few : n ≤ 8) (narrow : Narrow n steps) 
   module _ (vs : List ℕ) (q : ℕ) where
     pub ending_start : (ends : ℕ) → q < n → ends ≡ 2 ^ q → Ending steps n vs q 0 ends
     ending_start ends l e = record {
-      small = rw e (power_lt q n l);
+      small = rw e (pow-lt l);
       whole = λ r. after_same (step_in steps) n vs (has_bit ends) (eqb q) (λ s. ap (λ m. has_bit m s) e ∙ (members_one q).has s) r;
     }
 
@@ -108,7 +103,7 @@ module _ (steps : List ℕ) (n : ℕ) (few : n ≤ 8) (narrow : Narrow n steps) 
     pub course_start : (ends good : ℕ) → q < n → ends ≡ 2 ^ q → good ≡ bit_and (2 ^ q) accept → Course steps n accept vs q 0 ends good
     course_start ends good l e g = record {
       reach = ending_start vs q ends l e;
-      good_small = rw g (omega (arith, power_lt q n l, and_le_l (2 ^ q) accept));
+      good_small = rw g (omega (arith, pow-lt l, and_le_l (2 ^ q) accept));
       good_whole = λ r. met_same (step_in steps) n (has_bit accept) vs (has_bit ends) (eqb q) (has_bit good) (λ s. has_bit accept s && eqb q s) own both r;
     }
       where
@@ -187,36 +182,69 @@ module _ (steps : List ℕ) (n : ℕ) (few : n ≤ 8) (narrow : Narrow n steps) 
     going_end i ends good w e g d l = course_end i ends good w l e (g.course l) d
 
 -- the part of the sets that belongs to one place
-abbrev pub row_at : List ℕ → ℕ → List ℕ
-row_at sets at = take (at + 256 - at) (drop at sets)
+pub row_whole : (sets : List ℕ) {a k v : ℕ} → a ≡ v * 256 → k ≡ 256 → v < 128 → length sets ≡ 32768
+    → (take k (drop a sets) ≡ take 256 (drop (v * 256) sets)) × (length (take k (drop a sets)) ≡ 256)
+row_whole sets {a} {k} {v} e f l whole = rw (e, f) (refl, simp (length-take, length-drop) (omega arith))
 
-pub row_part : (sets : List ℕ) (at v : ℕ) → at ≡ v * 256 → (x : ℕ) → x < 256 → get_or (row_at sets at) x 0 ≡ get_or sets (v * 256 + x) 0
-row_part sets at v e x h = get_or-take (at + 256 - at) (drop at sets) x 0 (omega arith) ∙ get_or-drop at sets x 0 ∙ ap (λ a. get_or sets (a + x) 0) e
+pub row_part : (sets row : List ℕ) (v : ℕ) → row ≡ take 256 (drop (v * 256) sets) → (x : ℕ) → x < 256 → get_or row x 0 ≡ get_or sets (v * 256 + x) 0
+row_part sets row v e x h = rw e (get_or-take 256 (drop (v * 256) sets) x 0 h ∙ get_or-drop (v * 256) sets x 0)
 
--- four words more
-pub worded_turned : (steps : List ℕ) (n accept : ℕ) (vs old new : List ℕ) (q a b c d : ℕ) → Turned steps n accept vs (min q n) old
-    → Worded steps n accept vs q a b c d → StoredFour old q n a b c d new → Turned steps n accept vs (min (q + 4) n) new
-worded_turned steps n accept vs old new q a b c d t w s = record { word = λ p l. at p l (dec_lt p q) (ℕ_discrete p q) (ℕ_discrete p (q + 1)) (ℕ_discrete p (q + 2)) }
+-- four states at a time
+pub record Goings (steps : List ℕ) (n accept : ℕ) (vs : List ℕ) (q i : ℕ) (four : List Reach) : Type 0 where
+  pub each : (j : ℕ) → j < 4 → Going steps n accept vs (q + j) i (get_or four j nowhere).ends (get_or four j nowhere).good
+
+each_of_four : {A : Type 0} {a b c d : A} (z : A) (P : ℕ → A → Type 0) → P 0 a → P 1 b → P 2 c → P 3 d
+    → (j : ℕ) → j < 4 → P j (get_or (a ∷ b ∷ c ∷ d ∷ []) j z)
+each_of_four s P x y z w zero l = x
+each_of_four s P x y z w (suc zero) l = y
+each_of_four s P x y z w (suc (suc zero)) l = z
+each_of_four s P x y z w (suc (suc (suc zero))) l = w
+each_of_four s P x y z w (suc (suc (suc (suc j)))) l = absurd (omega arith)
+
+-- one place farther: the reach r, by the row of the place
+abbrev pub Advanced : List ℕ → ℕ → Reach → Reach → Type 0
+Advanced row accept r r' = (r'.ends ≡ get_or row r.ends 0) × (r'.good ≡ bit_or (get_or row r.good 0) (bit_and r'.ends accept))
+
+module _ {steps : List ℕ} {n : ℕ} (few : n ≤ 8) (narrow : Narrow n steps) {accept : ℕ} (vs : List ℕ) (q : ℕ) where
+  pub goings_start : {a b c d : Reach} → Begun q n accept a.ends a.good → Begun (q + 1) n accept b.ends b.good → Begun (q + 2) n accept c.ends c.good
+      → Begun (q + 3) n accept d.ends d.good → Goings steps n accept vs q 0 (a ∷ b ∷ c ∷ d ∷ [])
+  goings_start {a} {b} {c} {d} f g h k = record { each = each_of_four nowhere (λ j (r : Reach). Going steps n accept vs (q + j) 0 r.ends r.good) (rw own (start q f)) (start (q + 1) g) (start (q + 2) h) (start (q + 3) k) }
+    where
+      own : q + 0 ≡ q
+      own = omega arith
+
+      start : (p : ℕ) {r : Reach} → Begun p n accept r.ends r.good → Going steps n accept vs p 0 r.ends r.good
+      start p b = going_start steps n few narrow accept vs p b
+
+  pub goings_step : {i places : ℕ} {sets row : List ℕ} {four : List Reach} {a b c d : Reach} → i < length vs → get_or vs i 0 < places
+      → Tabled steps n places 0 sets → row ≡ take 256 (drop (get_or vs i 0 * 256) sets) → Goings steps n accept vs q i four
+      → Advanced row accept (get_or four 0 nowhere) a → Advanced row accept (get_or four 1 nowhere) b → Advanced row accept (get_or four 2 nowhere) c
+      → Advanced row accept (get_or four 3 nowhere) d → Goings steps n accept vs q (i + 1) (a ∷ b ∷ c ∷ d ∷ [])
+  goings_step {i} {places} {sets} {row} {four} l known t part g f h k m = record { each = each_of_four nowhere (λ j (r : Reach). Going steps n accept vs (q + j) (i + 1) r.ends r.good) (next 0 (omega arith) f) (next 1 (omega arith) h) (next 2 (omega arith) k) (next 3 (omega arith) m) }
+    where
+      next : (j : ℕ) → j < 4 → {r : Reach} → Advanced row accept (get_or four j nowhere) r → Going steps n accept vs (q + j) (i + 1) r.ends r.good
+      next j s {r} e =
+          going_step steps n few narrow accept vs (q + j) places i _ _ r.ends r.good sets row l known t (row_part sets row (get_or vs i 0) part) (g.each j s) e.0 e.1
+
+  pub goings_end : {i a b c d : ℕ} {four : List Reach} → i ≡ length vs → Goings steps n accept vs q i four
+      → a ≡ (get_or four 0 nowhere).ends + (get_or four 0 nowhere).good * 2 ^ 32 → b ≡ (get_or four 1 nowhere).ends + (get_or four 1 nowhere).good * 2 ^ 32
+      → c ≡ (get_or four 2 nowhere).ends + (get_or four 2 nowhere).good * 2 ^ 32 → d ≡ (get_or four 3 nowhere).ends + (get_or four 3 nowhere).good * 2 ^ 32
+      → Worded steps n accept vs q (a ∷ b ∷ c ∷ d ∷ [])
+  goings_end {i} {four = four} e g f h k m = record { each = each_of_four 0 (λ j (w : ℕ). q + j < n → Word (step_in steps) n (has_bit accept) vs (q + j) w) (last 0 (omega arith) f) (last 1 (omega arith) h) (last 2 (omega arith) k) (last 3 (omega arith) m) }
+    where
+      last : (j : ℕ) → j < 4 → {w : ℕ} → w ≡ (get_or four j nowhere).ends + (get_or four j nowhere).good * 2 ^ 32 → q + j < n
+          → Word (step_in steps) n (has_bit accept) vs (q + j) w
+      last j s {w} d l = going_end steps n few narrow accept vs (q + j) i _ _ w e (g.each j s) d l
+
+-- the words of four states more: new holds them from q on, and below q what old holds
+pub turned_four : {steps vs old new words : List ℕ} {n accept : ℕ} (q k : ℕ) → Turned steps n accept vs (min q n) old → Worded steps n accept vs q words
+    → ((p : ℕ) → p < q → get_or new p 0 ≡ get_or old p 0) → ((j : ℕ) → j < 4 → get_or new (q + j) 0 ≡ get_or words j 0)
+    → k ≤ q + 4 → k ≤ n → Turned steps n accept vs k new
+turned_four {steps} {vs} {old} {new} {words} {n} {accept} q k t w before here most few = record { word = λ p l. at p l (dec_lt p q) }
   where
-    put : (p v x : ℕ) → p ≡ v → get_or new v 0 ≡ x → Word (step_in steps) n (has_bit accept) vs v x → Word (step_in steps) n (has_bit accept) vs p (get_or new p 0)
-    put p v x e f k = rw (e, f) k
-
-    at : (p : ℕ) → p < min (q + 4) n → Dec (p < q) → Dec (p ≡ q) → Dec (p ≡ q + 1) → Dec (p ≡ q + 2) → Word (step_in steps) n (has_bit accept) vs p (get_or new p 0)
-    at p l (yes h) _ _ _ = rw (s.before p h) (t.word p (omega arith))
-    at p l (no h) (yes e) _ _ = let m : q < n = omega arith in put p q a e (s.put_a m) (w.word_a m)
-    at p l (no h) (no e) (yes f) _ = let m : q + 1 < n = omega arith in put p (q + 1) b f (s.put_b m) (w.word_b m)
-    at p l (no h) (no e) (no f) (yes g) = let m : q + 2 < n = omega arith in put p (q + 2) c g (s.put_c m) (w.word_c m)
-    at p l (no h) (no e) (no f) (no g) = let m : q + 3 < n = omega arith in put p (q + 3) d (omega arith) (s.put_d m) (w.word_d m)
-
-pub stored_four : {r₀ r₁ r₂ r₃ r₄ : List ℕ} {a b c d : ℕ} (q n : ℕ) → Stored r₀ q n a r₁ → Stored r₁ (q + 1) n b r₂ → Stored r₂ (q + 2) n c r₃
-    → Stored r₃ (q + 3) n d r₄ → StoredFour r₀ q n a b c d r₄
-stored_four q n s t u v = record {
-  put_a = λ l. v.others q (λ e. omega arith) ∙ u.others q (λ e. omega arith) ∙ t.others q (λ e. omega arith) ∙ s.here l;
-  put_b = λ l. v.others (q + 1) (λ e. omega arith) ∙ u.others (q + 1) (λ e. omega arith) ∙ t.here l;
-  put_c = λ l. v.others (q + 2) (λ e. omega arith) ∙ u.here l;
-  put_d = λ l. v.here l;
-  before = λ p l. v.others p (λ e. omega arith) ∙ u.others p (λ e. omega arith) ∙ t.others p (λ e. omega arith) ∙ s.others p (λ e. omega arith);
-}
-
-pub turned_few : {steps vs rows : List ℕ} {n accept j k : ℕ} → Turned steps n accept vs j rows → k ≤ j → Turned steps n accept vs k rows
-turned_few t l = record { word = λ q h. t.word q (omega (arith, l)) }
+    at : (p : ℕ) → p < k → Dec (p < q) → Word (step_in steps) n (has_bit accept) vs p (get_or new p 0)
+    at p l (yes h) = rw (before p h) (t.word p (omega arith))
+    at p l (no h) =
+        let j : ℕ = p - q in
+        let e : q + j ≡ p = omega arith in
+        subst (λ p. Word (step_in steps) n (has_bit accept) vs p (get_or new p 0)) e (rw (here j (omega arith)) (w.each j (omega arith) (omega arith)))

@@ -3,8 +3,7 @@
 --   steps_own    == so the step of the set of one state of a rule is the set of the states to which that state leads
 --   steps_narrow == which is below 2 ^ n, of n states
 --   filled_put   == one entry more
---   filled_none               == before the first row, of a blank table
---   filled_next  == a row is filled, and the next one begins
+--   filled_none  == before the first row, of a blank table
 use mathlib.Core.Path.{◌≡◌, refl, sym, ap, ◌∙◌}
 use mathlib.Core.Bool.{Bool, true, false, ◌&&◌}
 use mathlib.Core.List.{List}
@@ -12,7 +11,7 @@ use Prim.Native.Nat.{ℕ, suc, zero, ◌+◌, ◌*◌, ◌^◌, ◌≤◌, ◌<�
 use native.Mathlib.Nat.{pow-le-pow_right}
 use native.Mathlib.Decide.{ℕ_discrete}
 use native.Mathlib.Omega.{arith}
-use borrow.Author.Count.{below_none, below_more}
+use borrow.Author.Count.{below_more}
 use borrow.Author.Tests.{eqb-true, eq-eqb}
 use lib.ListN.{length, get_or, set, replicate}
 use lib.Seq.{get_or-set_same, get_or-set_other}
@@ -71,13 +70,6 @@ module _ {δ : ℕ → ℕ → ℕ → Bool} {n v q : ℕ} {steps : List ℕ} wh
       narrow_at : (t : ℕ) → Dec (t ≡ v * 32 + q) → get_or (set steps (v * 32 + q) entry) t 0 < 2 ^ n
       narrow_at t (yes d) = rw (d, here) small
       narrow_at t (no d) = rw (get_or-set_other steps (v * 32 + q) t entry 0 d) (f.narrow.narrow t)
-
-pub filled_next : {δ : ℕ → ℕ → ℕ → Bool} {n v : ℕ} {steps : List ℕ} → Filled δ n v n steps → Filled δ n (v + 1) 0 steps
-filled_next {δ} {n} {v} {steps} f = record { rows = λ u p before inside. at u p inside before (ℕ_discrete u v); part = below_none _; narrow = f.narrow }
-  where
-    at : (u p : ℕ) → p < n → u < v + 1 → Dec (u ≡ v) → Members (get_or steps (u * 32 + p) 0) (δ u p)
-    at u p inside before (yes d) = rw d (f.part p inside)
-    at u p inside before (no d) = f.rows u p (omega arith) inside
 
 -- before the first row
 pub filled_none : {δ : ℕ → ℕ → ℕ → Bool} (n k : ℕ) → Filled δ n 0 0 (replicate k 0)

@@ -2,11 +2,11 @@
 --   after_same                     == of sets with the same members the same is reached
 --   after_lands                    == of a set of states below n, by steps to such states, no others are reached
 --   after_narrow                   == and no others are passed
---   following_start, -step, -end   == place by place
+--   following_step, -end           == place by place
 use mathlib.Core.Path.{◌≡◌, refl, sym, ap, ◌∙◌}
 use mathlib.Core.Bool.{Bool, true, false, ◌&&◌}
 use mathlib.Core.List.{List, [], ◌∷◌}
-use Prim.Native.Nat.{ℕ, suc, ◌+◌, ◌*◌, ◌^◌, ◌≤◌, ◌<◌}
+use Prim.Native.Nat.{ℕ, suc, ◌+◌, ◌*◌, ◌≤◌, ◌<◌}
 use native.Mathlib.Numerals.{add-one}
 use native.Mathlib.Omega.{arith}
 use lib.ListN.{length, get_or, drop}
@@ -52,9 +52,6 @@ module _ (δ : ℕ → ℕ → ℕ → Bool) where
       next s h = let f = any_elim (λ q. X q && δ v q s) n h in lands v f.0 s (and_right (X f.0) _ f.2)
 
 module _ (steps vs : List ℕ) (set : ℕ) where
-  pub following_start : set < 2 ^ 32 → Following steps vs set 0 set
-  following_start small = record { small = small; whole = λ r. refl }
-
   pub following_step : (i reached row next : ℕ) → i < length vs → Narrow 32 steps → Following steps vs set i reached → row ≡ get_or vs i 0 * 32
       → Members next (gathered steps row reached) → Following steps vs set (i + 1) next
   unfolding after gathered step_in

@@ -37,6 +37,12 @@ pub narrower : (n m : ℕ) (table : List ℕ) → n ≤ m → Narrow n table →
 narrower n m table l x =
     record { narrow = λ t. let e : 2 ^ n ≤ 2 ^ m = pow-le-pow_right (omega arith) {i = n} {j = m} l in omega (arith, x.narrow t, e) }
 
+-- the lowest member of a set of numbers below 32
+pub lowest_below : (left : ℕ) → (left ≡ 0 → ⊥) → left < 2 ^ 32 → count_trailing_zeros 64 left < 32
+lowest_below left some small =
+    let fits : left < 2 ^ 64 = omega arith in
+    inside 32 left (count_trailing_zeros 64 left) small (eq-eqb _ _ (lowest_set 64 left some fits).0)
+
 module _ (table : List ℕ) (at : ℕ) where
   abbrev through : ℕ → ℕ → ℕ → Bool
   through set i q = has_bit set q && has_bit (get_or table (at + q) 0) i

@@ -18,11 +18,11 @@ use lib.ListN.{get_or}
 use Rattle.base.specs.Below.{any_below}
 use Rattle.base.specs.Bits.{bit}
 use Rattle.base.proofs.Tests.{false_not_true}
-use Rattle.automata.specs.Automaton.{guard, fits, leads, step, blocked, trap_step, final}
-use Rattle.automata.specs.WellFormed.{Below}
+use Rattle.automata.specs.Automaton.{no_move as move_of_zeros, guard, fits, leads, step, blocked, trap_step, final}
 use Rattle.automata.specs.Acceptance.{HardAccepts, SoftAccepts, lasso_at}
 use Rattle.automata.specs.declared.Automaton.{Automaton}
-use Rattle.automata.proofs.Readings.{early, marked}
+use Rattle.automata.specs.declared.Move.{Move}
+use Rattle.automata.proofs.Readings.{going, early, marked}
 use Rattle.acceptance.specs.Decision.{after, turn, meet, linked, decided}
 use Rattle.acceptance.proofs.Automata.{hard_decided, soft_decided}
 
@@ -38,28 +38,28 @@ soft a = decided (λ v. trap_step a (label v)) (suc a.states) a.first (final a) 
 abbrev pub word : ℕ → ℕ
 word t = label (lasso_at (0 ∷ []) (1 ∷ []) t)
 
--- every entry of a list, and the 0 past its end, is below n
-abbrev Each : ℕ → List ℕ → Type 0
+-- every move of a list, and the move of zeros past its end, leads to a state below n
+abbrev Each : ℕ → List Move → Type 0
 Each n [] = 0 < n
-Each n (x ∷ xs) = (x < n) × Each n xs
+Each n (m ∷ ms) = (m.to < n) × Each n ms
 
-each_below : (n : ℕ) (xs : List ℕ) → Each n xs → Below n xs
+each_below : (n : ℕ) (ms : List Move) → Each n ms → (i : ℕ) → (get_or ms i move_of_zeros).to < n
 each_below n [] h i = h
-each_below n (x ∷ xs) h zero = h.0
-each_below n (x ∷ xs) h (suc i) = each_below n xs h.1 i
+each_below n (m ∷ ms) h zero = h.0
+each_below n (m ∷ ms) h (suc i) = each_below n ms h.1 i
 
-module _ (a : Automaton) (first : a.first < a.states) (each : Each a.states a.to) where
+module _ (a : Automaton) (first : a.first < a.states) (each : Each a.states a.moves) where
   hard_accepts : hard a ≡ true → HardAccepts a word 1 1
-  hard_accepts = (hard_decided a label (0 ∷ []) (1 ∷ []) first (each_below a.states a.to each)).0
+  hard_accepts = (hard_decided a label (0 ∷ []) (1 ∷ []) first (each_below a.states a.moves each)).0
 
   hard_refuses : hard a ≡ false → HardAccepts a word 1 1 → ⊥
-  hard_refuses e A = false_not_true ((hard_decided a label (0 ∷ []) (1 ∷ []) first (each_below a.states a.to each)).1 A) e
+  hard_refuses e A = false_not_true ((hard_decided a label (0 ∷ []) (1 ∷ []) first (each_below a.states a.moves each)).1 A) e
 
   soft_accepts : soft a ≡ true → SoftAccepts a word 1 1
-  soft_accepts = (soft_decided a label (0 ∷ []) (1 ∷ []) first (each_below a.states a.to each)).0
+  soft_accepts = (soft_decided a label (0 ∷ []) (1 ∷ []) first (each_below a.states a.moves each)).0
 
   soft_refuses : soft a ≡ false → SoftAccepts a word 1 1 → ⊥
-  soft_refuses e A = false_not_true ((soft_decided a label (0 ∷ []) (1 ∷ []) first (each_below a.states a.to each)).1 A) e
+  soft_refuses e A = false_not_true ((soft_decided a label (0 ∷ []) (1 ∷ []) first (each_below a.states a.moves each)).1 A) e
 
 -- state 0, which accepts, is left for state 1 at once and for ever
 pub run_in_only : hard early ≡ false
@@ -75,12 +75,8 @@ branching = record {
   states = 2;
   first = 0;
   accept = 2;
-  moves = 3;
-  from = 0 ∷ 0 ∷ 1 ∷ [];
-  need = [];
-  bar = [];
-  any = [];
-  to = 0 ∷ 1 ∷ 1 ∷ [];
+  move_count = 3;
+  moves = going 0 0 0 0 ∷ going 0 0 0 1 ∷ going 1 0 0 1 ∷ [];
 }
 
 pub second_move : hard branching ≡ true
@@ -96,12 +92,8 @@ choosing = record {
   states = 1;
   first = 0;
   accept = 1;
-  moves = 2;
-  from = 0 ∷ 0 ∷ [];
-  need = 1 ∷ 0 ∷ [];
-  bar = 0 ∷ 1 ∷ [];
-  any = [];
-  to = 0 ∷ 0 ∷ [];
+  move_count = 2;
+  moves = going 0 1 0 0 ∷ going 0 0 1 0 ∷ [];
 }
 
 pub fitting_move : soft choosing ≡ true
@@ -113,7 +105,7 @@ fitting_move_accepts = soft_accepts choosing (omega arith) (omega arith) fitting
 
 -- state 0 accepts; its one move stays there, and fits where mark 0 is, so not in the loop
 abbrev pub asking : Automaton
-asking = record { states = 1; first = 0; accept = 1; moves = 1; from = 0 ∷ []; need = 1 ∷ []; bar = []; any = []; to = 0 ∷ [] }
+asking = record { states = 1; first = 0; accept = 1; move_count = 1; moves = going 0 1 0 0 ∷ [] }
 
 pub no_move : soft asking ≡ false
 unfolding decided after turn meet linked any_below trap_step blocked step leads fits guard final bit
@@ -132,7 +124,7 @@ start_label_accepts = soft_accepts marked (omega arith) (omega arith) start_labe
 
 -- the same where mark 0 is not
 abbrev pub unmarked : Automaton
-unmarked = record { states = 2; first = 0; accept = 2; moves = 2; from = 0 ∷ 1 ∷ []; need = []; bar = 1 ∷ 0 ∷ []; any = []; to = 1 ∷ 1 ∷ [] }
+unmarked = record { states = 2; first = 0; accept = 2; move_count = 2; moves = going 0 0 1 1 ∷ going 1 0 0 1 ∷ [] }
 
 pub start_skipped : soft unmarked ≡ false
 unfolding decided after turn meet linked any_below trap_step blocked step leads fits guard final bit

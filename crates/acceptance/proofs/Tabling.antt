@@ -1,33 +1,28 @@
 -- The table of the sets of an automaton of at most eight states, filled set by set.
 --   step_members                 == an entry of the table of steps is where its state leads
 --   led_none, led_more           == where the empty set leads; where a set of states below q leads together with state q
---   extended_start, extended_put == no entry is made yet; one entry more
---   sizes_double, sizes_fit      == the sets of q + 1 states are twice those of q; of at most eight states they are at most 256
---   narrow_byte                  == a set of at most eight states is a byte
---   tabled_start                 == no place is tabled yet
+--   sizes_double                 == the sets of q + 1 states are twice those of q
 --   tabled_first                 == the empty set of place v
 --   tabled_extend                == with a state more there are twice as many sets
---   tabled_next                  == a place is tabled, and the next one begins
 use mathlib.Core.Path.{◌≡◌, refl, sym, ap, ◌∙◌}
 use mathlib.Core.Bool.{Bool, true, false, ◌&&◌, ◌||◌}
 use mathlib.Core.List.{List}
-use Prim.Native.Nat.{ℕ, ◌+◌, ◌-◌, ◌*◌, ◌^◌, ◌≤◌, ◌<◌}
+use Prim.Native.Nat.{ℕ, ◌+◌, ◌-◌, ◌*◌, ◌^◌, ◌%◌, ◌≤◌, ◌<◌}
 use native.Mathlib.Decide.{dec_lt, ℕ_discrete}
-use native.Mathlib.Nat.{pow-suc}
+use native.Mathlib.Nat.{pow-suc, mod-eq_of_lt, one-mul}
+use Rattle.std.proofs.Math.Pow.{pow-lt}
 use native.Mathlib.Numerals.{add-one}
 use native.Mathlib.Omega.{arith}
-use borrow.Author.Count.{below_none, below_more}
 use borrow.Author.Tests.{eq-eqb}
 use lib.ListN.{length, get_or, set}
 use lib.Seq.{get_or-set_same, get_or-set_other}
-use lib.Bits.{bit_or}
 use lib.Pow.{pow_mono}
 use lib.Dec.{eqb}
 use Rattle.base.specs.Bits.{bit, has_bit, Members}
 use Rattle.base.proofs.Tests.{false_not_true, bool_same, any_intro, any_elim, and_intro, and_left, and_right, or_left, or_right, or_elim}
 use Rattle.base.proofs.Bits.{bit_zero, bit_high, bit_add_same, bit_add_other}
 use Rattle.base.proofs.Members.{members_none, members_or, members_same}
-use Rattle.acceptance.specs.Table.{step_in, Narrow}
+use Rattle.acceptance.specs.Table.{step_in}
 use Rattle.acceptance.specs.Sets.{led_by, Extended, Tabled}
 
 -- ---- where a set leads
@@ -82,37 +77,15 @@ module _ (steps : List ℕ) (v : ℕ) where
             at p l m s (yes e) = or_right (led_by steps v x r) _ (ap (λ p. step_in steps v p r) (sym e) ∙ s)
             at p l m s (no e) = or_left _ (step_in steps v q r) (led_intro x r p l (sym (other p e) ∙ m) s)
 
--- ---- twice as many entries
-pub extended_start : (at size next : ℕ) (sets : List ℕ) → Extended at size next sets 0 sets
-extended_start at size next sets = record { joined = below_none _; below = λ t l. refl }
+-- ---- twice as many sets
+pub sizes_double : (q : ℕ) → 2 ^ q * 2 ≡ 2 ^ (q + 1)
+sizes_double q = rw (add-one, pow-suc) (omega arith)
 
-pub extended_put : {at size next x : ℕ} {old new : List ℕ} → Extended at size next old x new → x < size → at + size + x < length new
-    → Extended at size next old (x + 1) (set new (at + size + x) (bit_or (get_or new (at + x) 0) next))
-extended_put {at} {size} {next} {x} {old} {new} e l room = record {
-  joined = below_more _ _ (λ y before. kept (at + size + y) (omega arith) ∙ e.joined y before) here;
-  below = λ t before. kept t (omega arith) ∙ e.below t before;
-}
-  where
-    here : get_or (set new (at + size + x) (bit_or (get_or new (at + x) 0) next)) (at + size + x) 0 ≡ bit_or (get_or old (at + x) 0) next
-    here = get_or-set_same new (at + size + x) _ 0 room ∙ ap (λ y. bit_or y next) (e.below (at + x) (omega arith))
-
-    kept : (t : ℕ) → (t ≡ at + size + x → ⊥) → get_or (set new (at + size + x) (bit_or (get_or new (at + x) 0) next)) t 0 ≡ get_or new t 0
-    kept t apart = get_or-set_other new (at + size + x) t _ 0 apart
-
--- ---- sizes
-pub sizes_double : (q : ℕ) {size : ℕ} → size ≡ 2 ^ q → size * 2 ≡ 2 ^ (q + 1)
-sizes_double q power = rw (add-one, pow-suc) (omega arith)
-
-pub sizes_fit : {n q size : ℕ} → size ≡ 2 ^ q → q < n → n ≤ 8 → size + size ≤ 256
-sizes_fit {n} {q} {size} power l few = let most : q + 1 ≤ 8 = omega arith in omega (arith, sizes_double q power, pow_mono most)
-
-pub narrow_byte : {n : ℕ} {steps : List ℕ} → n ≤ 8 → Narrow n steps → (t : ℕ) → get_or steps t 0 < 256
-narrow_byte few w t = omega (arith, w.narrow t, pow_mono few)
+-- the number of those sets, as a program makes it
+shift_one : (q : ℕ) → q < 8 → 1 * 2 ^ q % 2 ^ 64 ≡ 2 ^ q
+shift_one q l = let most : 2 ^ q < 2 ^ 8 = pow-lt l in mod-eq_of_lt (omega arith) ∙ one-mul (2 ^ q)
 
 -- ---- the table
-pub tabled_start : (steps : List ℕ) (n : ℕ) (sets : List ℕ) → Tabled steps n 0 0 sets
-tabled_start steps n sets = record { places = λ u x before small. absurd (omega arith); part = below_none _ }
-
 module _ {steps : List ℕ} {n v : ℕ} {sets : List ℕ} where
   pub tabled_first : Tabled steps n v 0 sets → n ≤ 8 → v * 256 < length sets → Tabled steps n v 1 (set sets (v * 256) 0)
   tabled_first t few room = record {
@@ -125,25 +98,21 @@ module _ {steps : List ℕ} {n v : ℕ} {sets : List ℕ} where
         rw (none, here, get_or-set_same sets (v * 256) 0 0 room) (members_same (λ r. sym (led_none steps v r)) members_none);
   }
 
-  pub tabled_extend : {size q next : ℕ} {longer : List ℕ} → Tabled steps n v size sets → size ≡ 2 ^ q → q < n → n ≤ 8
-      → Extended (v * 256) size next sets size longer → Members next (step_in steps v q) → Tabled steps n v (size * 2) longer
-  tabled_extend {size} {q} {next} {longer} t power l few e m = record {
+  pub tabled_extend : {q next : ℕ} {longer : List ℕ} → Tabled steps n v (2 ^ q) sets → q < n → n ≤ 8
+      → Extended (v * 256) (1 * 2 ^ q % 2 ^ 64) next sets (1 * 2 ^ q % 2 ^ 64) longer → Members next (step_in steps v q) → Tabled steps n v (2 ^ (q + 1)) longer
+  tabled_extend {q} {next} {longer} t l few shifted m = record {
     places = λ u x before small. rw (e.below (u * 256 + x) (omega (arith, pow_mono few))) (t.places u x before small);
-    part = λ x inside. at x inside (dec_lt x size);
+    part = λ x inside. at x (omega (arith, inside, sizes_double q)) (dec_lt x (2 ^ q));
   }
     where
-      upper : (x : ℕ) → x < size → Members (get_or longer (v * 256 + (x + 2 ^ q)) 0) (led_by steps v (x + 2 ^ q))
+      e : Extended (v * 256) (2 ^ q) next sets (2 ^ q) longer
+      e = rw (shift_one q (omega arith)) at shifted
+
+      upper : (x : ℕ) → x < 2 ^ q → Members (get_or longer (v * 256 + (x + 2 ^ q)) 0) (led_by steps v (x + 2 ^ q))
       upper x low =
-          let place : v * 256 + (x + 2 ^ q) ≡ v * 256 + size + x = omega arith in
-          rw (place, e.joined x low) (members_same (led_more steps v q x (omega arith) (omega arith)) (members_or (t.part x low) m))
+          let place : v * 256 + (x + 2 ^ q) ≡ v * 256 + 2 ^ q + x = omega arith in
+          rw (place, e.joined x low) (members_same (led_more steps v q x (omega arith) low) (members_or (t.part x low) m))
 
-      at : (x : ℕ) → x < size * 2 → Dec (x < size) → Members (get_or longer (v * 256 + x) 0) (led_by steps v x)
+      at : (x : ℕ) → x < 2 ^ q * 2 → Dec (x < 2 ^ q) → Members (get_or longer (v * 256 + x) 0) (led_by steps v x)
       at x inside (yes low) = rw (e.below (v * 256 + x) (omega arith)) (t.part x low)
-      at x inside (no high) = let rest : x - size + 2 ^ q ≡ x = omega arith in rw rest at (upper (x - size) (omega arith))
-
-  pub tabled_next : {size : ℕ} → Tabled steps n v size sets → size ≡ 2 ^ n → Tabled steps n (v + 1) 0 sets
-  tabled_next t power = record { places = λ u x before small. at u x small before (ℕ_discrete u v); part = below_none _ }
-    where
-      at : (u x : ℕ) → x < 2 ^ n → u < v + 1 → Dec (u ≡ v) → Members (get_or sets (u * 256 + x) 0) (led_by steps u x)
-      at u x small before (yes d) = rw d (t.part x (omega arith))
-      at u x small before (no d) = t.places u x (omega arith) small
+      at x inside (no high) = let rest : x - 2 ^ q + 2 ^ q ≡ x = omega arith in rw rest at (upper (x - 2 ^ q) (omega arith))

@@ -2,8 +2,7 @@
 --   marked_here, marked_not == the lower half of a word is put into the upper one where the state accepts, else not
 --   word_none               == the words over no entries
 --   word_cons, word_before  == the word over one entry more, in front; of a list, its entry i
---   turned_from, turned_last == the words over a list from i on, by another name of i; from its end on
---   turned_none, turned_put == the table of the words, row by row
+--   turned_put              == the table of the words, row by row
 --   turn_lands, meet_lands  == a turn leads to states below n
 use mathlib.Core.Path.{◌≡◌, refl, sym, ap, ap₂, ◌∙◌, subst}
 use mathlib.Core.Bool.{Bool, true, false, ◌&&◌, ◌||◌, or-false}
@@ -14,7 +13,7 @@ use native.Mathlib.Decide.{ℕ_discrete}
 use native.Mathlib.Omega.{arith}
 use borrow.Author.Tests.{eqb-true, ne_eqb}
 use lib.ListN.{length, get_or, set, drop}
-use lib.Seq.{get_or-set_same, get_or-set_other, drop-cons, drop-length}
+use lib.Seq.{get_or-set_same, get_or-set_other, drop-cons}
 use lib.Bits.{bit_or}
 use lib.Dec.{eqb}
 use Rattle.base.specs.Below.{any_below}
@@ -98,16 +97,7 @@ module _ (steps : List ℕ) (n accept : ℕ) where
       (word_cons (get_or vs i 0) (drop (suc i) vs) rows q next g w few (subst (λ j. Turned steps n accept (drop j vs) n rows) (add-one i) t)
       (f ∙ ap (λ r. get_or steps (r + q) 0) e) small m (subst (λ b. Marked g b w) b k))
 
-  pub turned_from : {k : ℕ} {rows : List ℕ} (vs : List ℕ) (i j : ℕ) → i ≡ j → Turned steps n accept (drop i vs) k rows → Turned steps n accept (drop j vs) k rows
-  turned_from {k} {rows} vs i j e t = subst (λ i. Turned steps n accept (drop i vs) k rows) e t
-
-  pub turned_last : {k : ℕ} {rows : List ℕ} (vs : List ℕ) → Turned steps n accept [] k rows → Turned steps n accept (drop (length vs) vs) k rows
-  turned_last {k} {rows} vs t = subst (λ ws. Turned steps n accept ws k rows) (sym (drop-length vs)) t
-
   module _ (vs rows : List ℕ) where
-    pub turned_none : Turned steps n accept vs 0 rows
-    turned_none = record { word = λ q l. absurd (omega arith) }
-
     pub turned_put : (q w : ℕ) → Turned steps n accept vs q rows → q < length rows → Word (step_in steps) n (has_bit accept) vs q w
         → Turned steps n accept vs (q + 1) (set rows q w)
     turned_put q w t h x = record { word = λ p l. at p l (ℕ_discrete p q) }

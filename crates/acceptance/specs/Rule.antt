@@ -8,16 +8,16 @@
 use Rattle.std.specs.Prelude.{◌≡◌, Bool, true, false, List, ℕ, ◌^◌, ◌≤◌, ◌<◌, length, get_or}
 use Rattle.automata.specs.Automaton.{step}
 use Rattle.automata.specs.Acceptance.{lasso_at, HardAccepts, SoftAccepts}
-use Rattle.automata.specs.WellFormed.{Below}
+use Rattle.automata.specs.WellFormed.{FromBelow, ToBelow}
 use Rattle.automata.specs.declared.Automaton.{Automaton}
 
 pub record Usable (a : Automaton) : Type 0 where
   pub few : a.states ≤ 16
   pub first : a.first < a.states
   pub accept : a.accept < 2 ^ a.states
-  pub moves : a.moves ≤ 64
-  pub from : Below a.states a.from
-  pub to : Below a.states a.to
+  pub moves : a.move_count ≤ 64
+  pub from : FromBelow a.states a
+  pub to : ToBelow a.states a
 
 abbrev pub placed : Automaton → List ℕ → ℕ → ℕ → ℕ → Bool
 placed a labels v = step a (get_or labels v 0)

@@ -11,8 +11,7 @@
 --                              == and those of `good` are reached with an accepting state met
 --   Begun q n accept ends good == before the first entry: the state q, if there is such a state
 --   Going                      == the course of state q, if there is such a state
---   Worded                     == the words of four states from q on
---   Stored, StoredFour         == one word, or four, stored from row q on, each if there is such a state
+--   Worded                     == the words of four states from q on, as far as there are such states
 use Rattle.std.specs.Prelude.{◌≡◌, Bool, ◌&&◌, ◌||◌, List, [], ◌∷◌, ℕ, ◌+◌, ◌*◌, ◌^◌, ◌<◌, get_or, drop, eqb}
 use Rattle.std.specs.Int.Bits.{bit_and, bit_or}
 use Rattle.base.specs.Below.{any_below}
@@ -53,19 +52,5 @@ pub record Begun (q n accept ends good : ℕ) : Type 0 where
 pub record Going (steps : List ℕ) (n accept : ℕ) (vs : List ℕ) (q i ends good : ℕ) : Type 0 where
   pub course : q < n → Course steps n accept vs q i ends good
 
-pub record Worded (steps : List ℕ) (n accept : ℕ) (vs : List ℕ) (q a b c d : ℕ) : Type 0 where
-  pub word_a : q < n → Word (step_in steps) n (has_bit accept) vs q a
-  pub word_b : q + 1 < n → Word (step_in steps) n (has_bit accept) vs (q + 1) b
-  pub word_c : q + 2 < n → Word (step_in steps) n (has_bit accept) vs (q + 2) c
-  pub word_d : q + 3 < n → Word (step_in steps) n (has_bit accept) vs (q + 3) d
-
-pub record Stored (old : List ℕ) (q n word : ℕ) (new : List ℕ) : Type 0 where
-  pub here : q < n → get_or new q 0 ≡ word
-  pub others : (p : ℕ) → (p ≡ q → ⊥) → get_or new p 0 ≡ get_or old p 0
-
-pub record StoredFour (old : List ℕ) (q n a b c d : ℕ) (new : List ℕ) : Type 0 where
-  pub put_a : q < n → get_or new q 0 ≡ a
-  pub put_b : q + 1 < n → get_or new (q + 1) 0 ≡ b
-  pub put_c : q + 2 < n → get_or new (q + 2) 0 ≡ c
-  pub put_d : q + 3 < n → get_or new (q + 3) 0 ≡ d
-  pub before : (p : ℕ) → p < q → get_or new p 0 ≡ get_or old p 0
+pub record Worded (steps : List ℕ) (n accept : ℕ) (vs : List ℕ) (q : ℕ) (words : List ℕ) : Type 0 where
+  pub each : (j : ℕ) → j < 4 → q + j < n → Word (step_in steps) n (has_bit accept) vs (q + j) (get_or words j 0)

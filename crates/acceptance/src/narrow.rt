@@ -1,55 +1,58 @@
 // A tour read by an automaton of at most eight states. A set of states is a byte, and for each place and each set there is the set of the
 // states to which its members lead: entry v * 256 + x for the set x at place v. So one look leads a set over a place.
-ghost use Rattle.std.specs.Prelude.{◌≡◌, ◌+◌, ◌*◌, ◌≤◌, ◌<◌, length, get_or, eqb};
+// `tour` has a `follow` and a `turn` of its own, since it has no such table: it joins the sets of the members, and reads the loop from its end.
+ghost use Rattle.std.specs.Prelude.{◌≡◌, ◌+◌, ◌*◌, ◌≤◌, ◌<◌, length, get_or, take, drop, eqb};
 ghost use Rattle.std.specs.Int.Bits.{bit_and, bit_or};
 ghost use Rattle.base.specs.Bits.{has_bit, Members};
 ghost use Rattle.automata.specs.WellFormed.{Below};
 ghost use Rattle.acceptance.specs.Decision.{after, decided};
-ghost use Rattle.acceptance.specs.Table.{step_in, Narrow, Turned};
-ghost use Rattle.acceptance.specs.Sets.{Extended, Tabled, Begun, Worded, Stored, StoredFour};
+ghost use Rattle.acceptance.specs.Table.{step_in, Turned};
+ghost use Rattle.acceptance.specs.Sets.{Extended, Tabled, Begun, Worded};
 
+use crate::rule::Rule;
 use crate::tour::close_up;
 use automata::one;
 
-// The sets with one state more: entries from `size` on are those below it, with `next` joined.
-fn extend(sets: &mut [u8], at: usize, size: usize, next: u8)
-    requires { at + (size + size) ≤ length sets.old }
+// The sets with one state more: behind the `size` entries from `at` on come those with `next` joined.
+fn extend(sets: &mut [u8; 32768], at: usize, size: usize, next: u8)
+    requires { at + (size + size) ≤ 32768 }
     ensures { Extended at size next sets.old size sets.new }
 {
-    let mut x = 0;
-    while x < size {
+    for x in 0..size {
         sets[at + size + x] = sets[at + x] | next;
-        x += 1;
     }
 }
 
 // The sets of place v.
-fn fill_place(steps: &[u64; 4096], n: usize, v: usize, sets: &mut [u8])
-    requires { (length sets.old ≡ 32768) × (n ≤ 8) × (v < 128) × Narrow n steps.now × Tabled steps.now n v 0 sets.old }
-    ensures { Tabled steps.now n (v + 1) 0 sets.new }
+#[tactic(auto, using(crate::proofs::Tabling::tabled_first))]
+fn fill_place(rule: Rule, v: usize, sets: &mut [u8; 32768])
+    requires { (rule.states ≤ 8) × (v < 128) × Tabled rule.steps.now rule.states v 0 sets.old }
+    ensures { Tabled rule.entry.steps.now rule.entry.states (v + 1) 0 sets.new }
 {
     let at = v * 256;
     sets[at] = 0;
-    let mut size = 1;
-    let mut q = 0;
-    while q < n {
-        let next = steps[v * 32 + q] as u8;
-        extend(sets, at, size, next);
-        size *= 2;
-        q += 1;
+    for q in 0..rule.states {
+        extend(sets, at, 1 << q, rule.steps[v * 32 + q] as u8);
     }
 }
 
 // The sets of all places.
-fn fill(steps: &[u64; 4096], n: usize, places: usize, sets: &mut [u8])
-    requires { (length sets.old ≡ 32768) × (n ≤ 8) × (places ≤ 128) × Narrow n steps.now }
-    ensures { Tabled steps.now n places 0 sets.new }
+fn fill(rule: Rule, sets: &mut [u8; 32768])
+    requires { rule.states ≤ 8 }
+    ensures { Tabled rule.entry.steps.now rule.entry.states rule.entry.places 0 sets.new }
 {
-    let mut v = 0;
-    while v < places {
-        fill_place(steps, n, v, sets);
-        v += 1;
+    for v in 0..rule.places {
+        fill_place(rule, v, sets);
     }
+}
+
+// The sets of place v, as a part of the table.
+fn row(sets: &[u8; 32768], v: u8) -> &[u8]
+    requires { v < 128 }
+    ensures { (result.now ≡ take 256 (drop (v * 256) sets.now)) × (length result.now ≡ 256) }
+{
+    let at = usize::from(v) * 256;
+    &sets[at..at + 256]
 }
 
 // Where a part of the loop leads from a state: to the states of `ends`, and to those of `good` with an accepting state met on the way.
@@ -64,14 +67,11 @@ fn begun(q: usize, n: usize, accept: u8) -> Reach
     requires { n ≤ 8 }
     ensures { Begun q n accept result.ends result.good }
 {
-    if q < n {
-        let ends = one(q) as u8;
-        return Reach {
-            ends,
-            good: ends & accept,
-        };
+    let ends = if q < n { one(q) as u8 } else { 0 };
+    Reach {
+        ends,
+        good: ends & accept,
     }
-    Reach { ends: 0, good: 0 }
 }
 
 // One place farther, by the sets of that place.
@@ -79,8 +79,8 @@ fn advance(row: &[u8], reach: Reach, accept: u8) -> Reach
     requires { length row.now ≡ 256 }
     ensures { (result.ends ≡ get_or row.now reach.ends 0) × (result.good ≡ bit_or (get_or row.now reach.good 0) (bit_and result.ends accept)) }
 {
-    let ends = row[reach.ends as usize];
-    let good = row[reach.good as usize] | (ends & accept);
+    let ends = row[usize::from(reach.ends)];
+    let good = row[usize::from(reach.good)] | (ends & accept);
     Reach { ends, good }
 }
 
@@ -88,165 +88,66 @@ fn advance(row: &[u8], reach: Reach, accept: u8) -> Reach
 fn word(reach: Reach) -> u64
     ensures { result ≡ reach.ends + reach.good * 4294967296 }
 {
-    reach.ends as u64 + reach.good as u64 * 4294967296
+    u64::from(reach.ends) + u64::from(reach.good) * 4294967296
 }
 
-// The words of four states.
-#[derive(Clone, Copy)]
-struct Four {
-    a: u64,
-    b: u64,
-    c: u64,
-    d: u64,
-}
-
-// The words of four states from q on, over the loop. The table of steps is not looked at: the contract speaks of it.
-fn pass(
-    steps: &[u64; 4096],
-    sets: &[u8],
-    n: usize,
-    accept: u8,
-    places: usize,
-    cycle: &[u8],
-    q: usize,
-) -> Four
-    requires { (length sets.now ≡ 32768) × (n ≤ 8) × (places ≤ 128) × (q ≤ 8) × Narrow n steps.now × Tabled steps.now n places 0 sets.now × Below places cycle.now }
-    ensures { Worded steps.now n accept cycle.now q result.a result.b result.c result.d }
+// The words of four states from q on, over the loop.
+fn pass(rule: Rule, sets: &[u8; 32768], cycle: &[u8], q: usize) -> [u64; 4]
+    requires { (rule.states ≤ 8) × (q ≤ 8) × Tabled rule.steps.now rule.states rule.places 0 sets.now × Below rule.places cycle.now }
+    ensures { Worded rule.entry.steps.now rule.entry.states rule.entry.accept cycle.now q result }
 {
-    let mut a = begun(q, n, accept);
-    let mut b = begun(q + 1, n, accept);
-    let mut c = begun(q + 2, n, accept);
-    let mut d = begun(q + 3, n, accept);
-    let mut i = 0;
-    while i < cycle.len() {
-        let at = row_of(cycle[i]);
-        let end = at + 256;
-        let row = &sets[at..end];
-        a = advance(row, a, accept);
-        b = advance(row, b, accept);
-        c = advance(row, c, accept);
-        d = advance(row, d, accept);
-        i += 1;
+    let n = rule.states;
+    let accept = rule.accept as u8;
+    let mut four = [
+        begun(q, n, accept),
+        begun(q + 1, n, accept),
+        begun(q + 2, n, accept),
+        begun(q + 3, n, accept),
+    ];
+    for v in cycle {
+        let row = row(sets, *v);
+        four = [
+            advance(row, four[0], accept),
+            advance(row, four[1], accept),
+            advance(row, four[2], accept),
+            advance(row, four[3], accept),
+        ];
     }
-    Four {
-        a: word(a),
-        b: word(b),
-        c: word(c),
-        d: word(d),
+    [word(four[0]), word(four[1]), word(four[2]), word(four[3])]
+}
+
+// The words of a turn of the loop: four states at a time. (`tour` goes back through the loop instead, and joins sets: no twin of this.)
+fn turn(rule: Rule, sets: &[u8; 32768], cycle: &[u8], rows: &mut [u64; 32])
+    requires { (rule.states ≤ 8) × Tabled rule.steps.now rule.states rule.places 0 sets.now × Below rule.places cycle.now }
+    ensures { Turned rule.entry.steps.now rule.entry.states rule.entry.accept cycle.now rule.entry.states rows.new }
+{
+    for q in (0..rule.states).step_by(4) {
+        rows[q..q + 4].copy_from_slice(&pass(rule, sets, cycle, q));
     }
 }
 
-// Where the sets of place v begin.
-fn row_of(v: u8) -> usize
-    requires { v < 128 }
-    ensures { (result ≡ v * 256) × (result + 256 ≤ 32768) }
+// The states to which the first state leads over the places of a list. (That of `tour` joins the sets of many states where this one looks a
+// set up: a function lent for the step would be longer than the two loops.)
+fn follow(rule: Rule, sets: &[u8; 32768], list: &[u8]) -> u8
+    requires { (rule.states ≤ 8) × Tabled rule.steps.now rule.states rule.places 0 sets.now × Below rule.places list.now }
+    ensures { Members result (after (step_in rule.entry.steps.now) rule.entry.states list.now (eqb rule.entry.first)) }
 {
-    v as usize * 256
-}
-
-// Stores the word of state q, if there is such a state.
-fn put_word(rows: &mut [u64], q: usize, n: usize, word: u64)
-    requires { (n ≤ 8) × (length rows.old ≡ 32) }
-    ensures { Stored rows.old q n word rows.new }
-{
-    if q < n {
-        rows[q] = word;
-    }
-}
-
-// Stores four words.
-fn put_four(rows: &mut [u64], q: usize, n: usize, four: Four)
-    requires { (n ≤ 8) × (q ≤ 8) × (length rows.old ≡ 32) }
-    ensures { StoredFour rows.old q n four.a four.b four.c four.d rows.new }
-{
-    put_word(rows, q, n, four.a);
-    put_word(rows, q + 1, n, four.b);
-    put_word(rows, q + 2, n, four.c);
-    put_word(rows, q + 3, n, four.d);
-}
-
-// The words of a turn of the loop: two times four states.
-fn turn(
-    steps: &[u64; 4096],
-    sets: &[u8],
-    n: usize,
-    accept: u8,
-    places: usize,
-    cycle: &[u8],
-    rows: &mut [u64],
-)
-    requires { (length rows.old ≡ 32) × (length sets.now ≡ 32768) × (n ≤ 8) × (places ≤ 128) × Narrow n steps.now × Tabled steps.now n places 0 sets.now × Below places cycle.now }
-    ensures { Turned steps.now n accept cycle.now n rows.new }
-{
-    let mut q = 0;
-    while q < n {
-        let four = pass(steps, sets, n, accept, places, cycle, q);
-        put_four(rows, q, n, four);
-        q += 4;
-    }
-}
-
-// The states to which the states of a set lead over the places of a list.
-fn follow(
-    steps: &[u64; 4096],
-    sets: &[u8],
-    n: usize,
-    places: usize,
-    list: &[u8],
-    first: usize,
-) -> u8
-    requires { (length sets.now ≡ 32768) × (n ≤ 8) × (places ≤ 128) × (first < n) × Narrow n steps.now × Tabled steps.now n places 0 sets.now × Below places list.now }
-    ensures { Members result (after (step_in steps.now) n list.now (eqb first)) }
-{
-    let mut reached = one(first) as u8;
-    let mut i = 0;
-    while i < list.len() {
-        let at = row_of(list[i]);
-        reached = sets[at + reached as usize];
-        i += 1;
+    let mut reached = one(rule.first) as u8;
+    for v in list {
+        reached = row(sets, *v)[usize::from(reached)];
     }
     reached
 }
 
-// Whether the automaton of at most eight states whose steps the table has accepts the tour; `sets`, `rows` and `links` are room to work in.
-fn decide_in(
-    steps: &[u64; 4096],
-    n: usize,
-    first: usize,
-    accept: u8,
-    places: usize,
-    stem: &[u8],
-    cycle: &[u8],
-    sets: &mut [u8],
-    rows: &mut [u64; 32],
-    links: &mut [u64; 32],
-) -> bool
-    requires { (length sets.old ≡ 32768) × (n ≤ 8) × (places ≤ 128) × (first < n) × Narrow n steps.now × Below places stem.now × Below places cycle.now }
-    ensures { result ≡ decided (step_in steps.now) n first (has_bit accept) stem.now cycle.now }
+// Whether the rule of at most eight states accepts the tour.
+pub fn decide(rule: Rule, stem: &[u8], cycle: &[u8]) -> bool
+    requires { (rule.states ≤ 8) × Below rule.places stem.now × Below rule.places cycle.now }
+    ensures { result ≡ decided (step_in rule.entry.steps.now) rule.entry.states rule.entry.first (has_bit rule.entry.accept) stem.now cycle.now }
 {
-    fill(steps, n, places, sets);
-    let set = follow(steps, sets, n, places, stem, first);
-    turn(steps, sets, n, accept, places, cycle, rows);
-    close_up(n, set as u64, rows, links)
-}
-
-// Lends the room to work in.
-pub fn decide(
-    steps: &[u64; 4096],
-    n: usize,
-    first: usize,
-    accept: u8,
-    places: usize,
-    stem: &[u8],
-    cycle: &[u8],
-) -> bool
-    requires { (n ≤ 8) × (places ≤ 128) × (first < n) × Narrow n steps.now × Below places stem.now × Below places cycle.now }
-    ensures { result ≡ decided (step_in steps.now) n first (has_bit accept) stem.now cycle.now }
-{
-    let mut sets = [0u8; 32768];
-    let mut rows = [0u64; 32];
-    let mut links = [0u64; 32];
-    decide_in(
-        steps, n, first, accept, places, stem, cycle, &mut sets, &mut rows, &mut links,
-    )
+    let mut sets = [0; 32768];
+    fill(rule, &mut sets);
+    let set = follow(rule, &sets, stem);
+    let mut rows = [0; 32];
+    turn(rule, &sets, cycle, &mut rows);
+    close_up(rule.states, u64::from(set), &rows)
 }

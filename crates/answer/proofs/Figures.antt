@@ -3,7 +3,7 @@
 --   figure_block == the block of an answer whose numbers take all their bytes
 use mathlib.Core.Path.{◌≡◌, refl}
 use mathlib.Core.List.{[], ◌∷◌, ◌++◌}
-use Rattle.answer.specs.Block.{little, block_of}
+use Rattle.answer.specs.Block.{little, head_of, block_of}
 use Rattle.text.specs.Decimal.{digits_of, decimal}
 use Rattle.text.specs.KeyLine.{joined, key_line}
 use Rattle.answer.specs.Text.{figures, text_of}
@@ -28,5 +28,5 @@ wide_answer =
 
 pub figure_block : block_of wide_answer
     ≡ 0 ∷ 253 ∷ 7 ∷ 0 ∷ 1 ∷ 2 ∷ 3 ∷ 4 ∷ 0 ∷ 72 ∷ 232 ∷ 1 ∷ 0 ∷ 8 ∷ 0 ∷ 80 ∷ []
-unfolding little block_of
+unfolding little head_of block_of
 figure_block = refl

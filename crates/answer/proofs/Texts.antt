@@ -32,6 +32,11 @@ unfolding text_of
 text_length a stem cycle h hs hc =
     simp (length-append, line_length) (omega (arith, joined_length stem hs, joined_length cycle hc))
 
+-- the room that `write_text` asks for is enough
+pub text_room : (a : Answer) (stem cycle : List ℕ) (room : ℕ) → a.number < 4294967296 → a.line < 4294967296 → a.cost < 4294967296
+    → a.kept < 4294967296 → Bytes stem → Bytes cycle → 128 + 4 * (length stem + length cycle) ≤ room → 0 + length (text_of a stem cycle) ≤ room
+text_room a stem cycle room hn hl hc hk hs hy h = omega (arith, text_length a stem cycle (figures_length a hn hl hc hk) hs hy)
+
 -- the text as its six lines, one behind the other
 abbrev pub lines_of : Answer → List ℕ → List ℕ → List ℕ
 lines_of a stem cycle =

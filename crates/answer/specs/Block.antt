@@ -1,5 +1,7 @@
 -- The answer block (01, "For the host and for the rig"), and what its bytes say.
 --   little n x   == the n lowest bytes of x, the lowest first
+--   head_of n kept third line cost
+--                == the twelve bytes that a block of numbers begins with
 --   block_of a    == the sixteen bytes of the answer a
 --   number bytes == the number that bytes say, the lowest first
 --   answer_of b   == the answer that a block's bytes say
@@ -11,13 +13,13 @@ unfoldable pub little : ℕ → ℕ → List ℕ
 little zero x = []
 little (suc n) x = x % 256 ∷ little n (x / 256)
 
--- byte 0 the number, 1 kept, 2 its count, 3 zero, 4..7 line, 8..11 cost, 12..13 run-in length, 14..15 loop length
+-- byte 0 the number, 1 kept, 2 what the block has there, 3 zero, 4..7 line, 8..11 cost
+unfoldable pub head_of : ℕ → ℕ → ℕ → ℕ → ℕ → List ℕ
+head_of n kept third line cost = little 1 n ++ (little 1 kept ++ (little 1 third ++ (0 ∷ (little 4 line ++ little 4 cost))))
+
+-- of the head, byte 2 the count of kept; 12..13 run-in length, 14..15 loop length
 unfoldable pub block_of : Answer → List ℕ
-block_of a =
-    little 1 a.number
-    ++ (little 1 a.kept
-    ++ (little 1 a.count
-    ++ (0 ∷ (little 4 a.line ++ (little 4 a.cost ++ (little 2 a.stem ++ little 2 a.cycle))))))
+block_of a = head_of a.number a.kept a.count a.line a.cost ++ (little 2 a.stem ++ little 2 a.cycle)
 
 unfoldable pub number : List ℕ → ℕ
 number [] = 0

@@ -3,14 +3,13 @@
 
 ghost use Rattle.std.specs.Prelude.{◌≡◌, ◌++◌, ◌+◌, ◌*◌, ◌≤◌, length, drop};
 ghost use Rattle.text.specs.Over.{Wrote};
-ghost use Rattle.answer.specs.Block.{little, block_of};
+ghost use Rattle.answer.specs.Block.{little, head_of, block_of};
 ghost use Rattle.answer.specs.Text.{figures, text_of};
 
-use text::read::wide;
 use text::write::{put_list_line, put_number_line};
 
-// An answer but for its places: `number` is 0 for a tour, else that of the refusal, and `line` the faulty line of the
-// plan or 0. `count` is how many soft rules `kept` keeps, `stem` and `cycle` are the lengths of run-in and loop.
+// An answer but for its places, by the numbers that a C host and a text are told: `number` is 0 for a tour, else that of the refusal, and `line`
+// the faulty line of the plan or 0. `count` is how many soft rules `kept` keeps, `stem` and `cycle` are the lengths of run-in and loop.
 #[derive(Clone, Copy)]
 pub struct Answer {
     pub number: u32,
@@ -23,25 +22,28 @@ pub struct Answer {
 }
 
 // The n lowest bytes of x, the lowest first, from `at` on.
-pub fn put_wide(block: &mut [u8], at: usize, n: usize, x: u64)
+pub fn put_little(block: &mut [u8], at: usize, n: usize, x: u64)
     requires { at + n ≤ length block.old }
     ensures { Wrote block.old at (little n x) block.new (at + n) }
 {
     let mut rest = x;
-    let mut i = 0;
-    while i < n {
-        block[at + i] = (rest % 256) as u8;
-        rest = rest / 256;
-        i += 1;
+    for byte in block[at..at + n].iter_mut() {
+        *byte = (rest % 256) as u8;
+        rest /= 256;
     }
 }
 
-// The same of a number of 32 bits.
-pub fn put_little(block: &mut [u8], at: usize, n: usize, x: u32)
-    requires { at + n ≤ length block.old }
-    ensures { Wrote block.old at (little n x) block.new (at + n) }
+// The first 12 bytes of a block of numbers; `third` is what byte 2 says there.
+pub fn put_head(block: &mut [u8], number: u32, kept: u64, third: u64, line: usize, cost: u64)
+    requires { 12 ≤ length block.old }
+    ensures { Wrote block.old 0 (head_of number kept third line cost) block.new 12 }
 {
-    put_wide(block, at, n, wide(x));
+    put_little(block, 0, 1, u64::from(number));
+    put_little(block, 1, 1, kept);
+    put_little(block, 2, 1, third);
+    put_little(block, 3, 1, 0);
+    put_little(block, 4, 4, line as u64);
+    put_little(block, 8, 4, cost);
 }
 
 // The answer block (01, "For the host and for the rig"): the first 16 bytes of `block`. Its later bytes are unchanged.
@@ -49,14 +51,16 @@ pub fn put_block(a: Answer, block: &mut [u8])
     requires { 16 ≤ length block.old }
     ensures { block.new ≡ block_of a ++ drop 16 block.old }
 {
-    put_little(block, 0, 1, a.number);
-    put_little(block, 1, 1, a.kept);
-    put_little(block, 2, 1, a.count);
-    put_little(block, 3, 1, 0);
-    put_little(block, 4, 4, a.line);
-    put_little(block, 8, 4, a.cost);
-    put_little(block, 12, 2, a.stem);
-    put_little(block, 14, 2, a.cycle);
+    put_head(
+        block,
+        a.number,
+        u64::from(a.kept),
+        u64::from(a.count),
+        a.line as usize,
+        u64::from(a.cost),
+    );
+    put_little(block, 12, 2, u64::from(a.stem));
+    put_little(block, 14, 2, u64::from(a.cycle));
 }
 
 // The four lines that hold a number.

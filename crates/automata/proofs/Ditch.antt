@@ -12,7 +12,7 @@ use native.Mathlib.Omega.{arith}
 use Rattle.base.proofs.Tests.{false_not_true}
 use Rattle.automata.specs.Automaton.{trap, final}
 use Rattle.automata.specs.Acceptance.{HardAccepts, SoftAccepts}
-use Rattle.automata.specs.WellFormed.{Below}
+use Rattle.automata.specs.WellFormed.{FromBelow, ToBelow}
 use Rattle.automata.specs.declared.Automaton.{Automaton}
 use Rattle.automata.proofs.Traps.{trap_stays, step_lands, trap_other, trap_refuses}
 
@@ -33,7 +33,7 @@ module _ (a : Automaton) (w : ℕ → ℕ) (r l : ℕ) where
       let met = ditch_stays A (r + A.a * l) back u.0 (omega arith) (omega arith) in
       false_not_true u.3 (ap (final a) met ∙ trap_refuses a)
 
-  pub soft_hard : Below a.states a.from → SoftAccepts a w r l → HardAccepts a w r l
+  pub soft_hard : FromBelow a.states a → SoftAccepts a w r l → HardAccepts a w r l
   soft_hard from A = record {
     a = A.a;
     b = A.b;
@@ -45,7 +45,7 @@ module _ (a : Automaton) (w : ℕ → ℕ) (r l : ℕ) where
     accepts = A.accepts;
   }
 
-  pub hard_soft : Below a.states a.from → Below a.states a.to → HardAccepts a w r l → SoftAccepts a w r l
+  pub hard_soft : FromBelow a.states a → ToBelow a.states a → HardAccepts a w r l → SoftAccepts a w r l
   hard_soft from to A = record {
     a = A.a;
     b = A.b;

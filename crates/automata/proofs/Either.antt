@@ -9,9 +9,9 @@
 use mathlib.Core.Path.{◌≡◌, refl, sym, ap, ◌∙◌}
 use mathlib.Core.Bool.{Bool, true, false, not, ◌&&◌, ◌||◌, or_assoc, or-false}
 use Prim.Native.Nat.{ℕ, zero, suc, ◌+◌, ◌^◌}
+use Rattle.std.proofs.Math.Bool.{and-true, and-or_distrib_left}
 use native.Mathlib.Decide.{ℕ_discrete}
 use native.Mathlib.Omega.{arith}
-use lib.ListN.{get_or}
 use lib.Bits.{bit_and, bit_or}
 use lib.Dec.{eqb}
 use Rattle.base.specs.Below.{any_below}
@@ -24,18 +24,14 @@ use Rattle.base.proofs.Bits.{bit_lt, bit_zero, bit-or, bit_ext, bit_add_same, bi
 use Rattle.automata.proofs.Repeats.{Relisted, any_relisted, Alike}
 use Rattle.automata.proofs.Guards.{Satisfies, guard_satisfies, satisfies_guard}
 
-and-true : (b : Bool) → (b && true) ≡ b
-and-true true = refl
-and-true false = refl
-
 pub guard_none : (x need bar : ℕ) → guard x need bar 0 ≡ eqb (bit_and x need) need && eqb (bit_and x bar) 0
 unfolding guard
 guard_none x need bar = and-true (eqb (bit_and x need) need && eqb (bit_and x bar) 0)
 
-pub fits_none : (a : Automaton) → ((i : ℕ) → get_or a.any i 0 ≡ 0) → (x q i : ℕ)
-    → fits a x q i ≡ eqb (get_or a.from i 0) q && (eqb (bit_and x (get_or a.need i 0)) (get_or a.need i 0) && eqb (bit_and x (get_or a.bar i 0)) 0)
+pub fits_none : (a : Automaton) → ((i : ℕ) → (move a i).any ≡ 0) → (x q i : ℕ)
+    → fits a x q i ≡ eqb (move a i).from q && (eqb (bit_and x (move a i).need) (move a i).need && eqb (bit_and x (move a i).bar) 0)
 unfolding fits
-fits_none a none x q i = rw (none i, guard_none x (get_or a.need i 0) (get_or a.bar i 0))
+fits_none a none x q i = rw (none i, guard_none x (move a i).need (move a i).bar)
 
 -- a number with the one bit i
 pub record Lone (a i : ℕ) : Type 0 where
@@ -144,10 +140,6 @@ unfolding any_below first_then
 any_first p m xs zero = sym (or-false (p m))
 any_first p m xs (suc n) = ap (λ b. b || p (xs n)) (any_first p m xs n) ∙ or_assoc (p m) (any_below n (λ k. p (xs k))) (p (xs n))
 
-and_or : (l g h : Bool) → (l && (g || h)) ≡ ((l && g) || (l && h))
-and_or true g h = refl
-and_or false g h = refl
-
 -- a choice of two guards, with other tests on either side
 among : (l g h r : Bool) → ((l && (g || h)) && r) ≡ (((l && g) && r) || ((l && h) && r))
 among false g h r = refl
@@ -185,7 +177,7 @@ module _ (a b : Automaton) (s : SplitMove a b) where
   split_blocked : (x q : ℕ) → blocked a x q ≡ blocked b x q
   unfolding blocked fits
   split_blocked x q = ap not (split_any (λ (m : Move). eqb m.from q && opens x m)
-      (ap (λ t. eqb s.m.from q && t) (split_opens x) ∙ and_or (eqb s.m.from q) (opens x one) (opens x other)))
+      (ap (λ t. eqb s.m.from q && t) (split_opens x) ∙ and-or_distrib_left (eqb s.m.from q) (opens x one) (opens x other)))
 
   pub split_alike : Alike a b
   split_alike = record { states = s.states; first = s.first; accept = s.accept; steps = split_step; blocks = split_blocked }

@@ -2,3 +2,4 @@
 pub mod Bridge
 pub mod Made
 pub mod Steps
+pub mod Renaming

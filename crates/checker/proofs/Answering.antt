@@ -16,6 +16,7 @@ use mathlib.Core.Logic.{◌↔◌}
 use mathlib.Core.List.{List, ◌++◌}
 use Prim.Native.Nat.{ℕ}
 use native.Mathlib.Omega.{arith}
+use Rattle.std.specs.Prelude.{Result, Ok, Err}
 use Rattle.base.specs.Least.{Found, nowhere, at}
 use Rattle.base.proofs.Tests.{false_not_true}
 use Rattle.automata.proofs.Respelled.{accepts_doubled, accepts_turned}
@@ -23,20 +24,17 @@ use Rattle.plan.specs.WellFormed.{WellFormed}
 use Rattle.plan.specs.Size.{too_large}
 use Rattle.plan.specs.Tour.{label, IsLasso, Hard, Soft}
 use Rattle.plan.specs.Cost.{keeps, KeptIs, cost}
+use Rattle.plan.specs.Returned.{number_of, index_of}
 use Rattle.plan.specs.declared.Plan.{Plan}
+use Rattle.plan.specs.declared.Refusal.{Refusal}
 use Rattle.plan.specs.declared.Refusal.TheVariants.{ProductTooLarge}
 use Rattle.plan.proofs.Sums.{kept_ext}
-use Rattle.reader.specs.Outcome as reader
 use Rattle.reader.specs.Reading.{read_plan}
-use Rattle.reader.specs.declared.Outcome.{Outcome}
-use Rattle.reader.specs.declared.Outcome.TheVariants as outcome
 use Rattle.reader.proofs.Answers.{Early, read_early}
 use Rattle.checker.specs.Break.{first_break}
-use Rattle.checker.specs.Check.{Ruling, refuse, judge, by_break, ruling, Worthy, Ruled, RuledOf, CheckOf, number, index_of}
+use Rattle.checker.specs.Check.{Ruling, refuse, judge, by_break, ruling, Check, Worthy, Ruled, RuledOf, CheckOf}
 use Rattle.checker.specs.Outcome.{held}
 use Rattle.checker.specs.declared.Worth.{Worth}
-use Rattle.checker.specs.declared.Check.{Check}
-use Rattle.checker.specs.declared.Check.TheVariants.{Tour}
 use Rattle.checker.proofs.Breaks.{lasso_whole}
 use Rattle.checker.proofs.Respelled.{break_doubled, break_turned}
 
@@ -62,10 +60,10 @@ worthy_same {p} {w = w} {w' = w'} x y =
 ruled_same : (r : Ruling) (stem cycle : List ℕ) (c c' : Check) → Ruled r stem cycle c → Ruled r stem cycle c' → c ≡ c'
 unfolding Ruled
 ruled_same (refuse x) stem cycle c c' h h' = h ∙ sym h'
-ruled_same (judge p) stem cycle c c' h h' = h.told ∙ ap Tour (worthy_same h.worthy h'.worthy) ∙ sym h'.told
+ruled_same (judge p) stem cycle c c' h h' = h.told ∙ ap Ok (worthy_same h.worthy h'.worthy) ∙ sym h'.told
 
 pub check_same : (file stem cycle : List ℕ) (c c' : Check) → CheckOf file stem cycle c → CheckOf file stem cycle c' → c ≡ c'
-check_same file stem cycle c c' h h' = ruled_same (ruling (read_plan file).outcome (read_plan file).plan stem cycle) stem cycle c c' h h'
+check_same file stem cycle c c' h h' = ruled_same (ruling (read_plan file) stem cycle) stem cycle c c' h h'
 
 record Respelled (stem cycle stem' cycle' : List ℕ) : Type 0 where
   breaks : (p : Plan) → first_break p stem' cycle' ≡ first_break p stem cycle
@@ -102,10 +100,10 @@ module _ {stem cycle stem' cycle' : List ℕ} (s : Respelled stem cycle stem' cy
     cost = x.cost;
   }
 
-  ruling_respelled : (o : Outcome) (p : Plan) → ruling o p stem cycle ≡ ruling o p stem' cycle'
+  ruling_respelled : (r : Result Plan Refusal) → ruling r stem cycle ≡ ruling r stem' cycle'
   unfolding ruling
-  ruling_respelled (outcome.Refused x) p = refl
-  ruling_respelled outcome.Plan p = ap (λ f. cond (too_large p) (refuse ProductTooLarge) (by_break p f)) (sym (s.breaks p))
+  ruling_respelled (Err x) = refl
+  ruling_respelled (Ok p) = ap (λ f. cond (too_large p) (refuse ProductTooLarge) (by_break p f)) (sym (s.breaks p))
 
   ruled_respelled : (r : Ruling) (c : Check) → Ruled r stem cycle c → Ruled r stem' cycle' c
   unfolding Ruled
@@ -114,9 +112,8 @@ module _ {stem cycle stem' cycle' : List ℕ} (s : Respelled stem cycle stem' cy
 
   check_respelled : (file : List ℕ) (c : Check) → CheckOf file stem cycle c → CheckOf file stem' cycle' c
   check_respelled file c h =
-      let o = (read_plan file).outcome in
-      let p = (read_plan file).plan in
-      subst (λ r. Ruled r stem' cycle' c) (ruling_respelled o p) (ruled_respelled (ruling o p stem cycle) c h)
+      let r = read_plan file in
+      subst (λ r. Ruled r stem' cycle' c) (ruling_respelled r) (ruled_respelled (ruling r stem cycle) c h)
 
 module _ (file stem cycle : List ℕ) (c : Check) (h : CheckOf file stem cycle c) where
   pub check_doubled : CheckOf file stem (cycle ++ cycle) c
@@ -132,12 +129,12 @@ module _ (file stem cycle : List ℕ) (c : Check) (h : CheckOf file stem cycle c
   respelled_turned c' = check_same file (stem ++ cycle) cycle c c' check_turned
 
 module _ (p : Plan) (stem cycle : List ℕ) where
-  tour_judged : WellFormed p → too_large p ≡ false → IsLasso p stem cycle → ruling outcome.Plan p stem cycle ≡ judge p
+  tour_judged : WellFormed p → too_large p ≡ false → IsLasso p stem cycle → ruling (Ok p) stem cycle ≡ judge p
   unfolding ruling
   tour_judged ok fits lasso = rw (fits, lasso_whole p stem cycle ok lasso)
 
   hard_ruled : (k : ℕ) → Hard p stem cycle → KeptIs p stem cycle k
-      → Ruled (judge p) stem cycle (Tour (record { accepts = true; kept = k; cost = cost p k }))
+      → Ruled (judge p) stem cycle (Ok (record { accepts = true; kept = k; cost = cost p k }))
   unfolding Ruled
   hard_ruled k hard kept = record {
     worth = record { accepts = true; kept = k; cost = cost p k };
@@ -146,23 +143,23 @@ module _ (p : Plan) (stem cycle : List ℕ) where
   }
 
   pub own_worth : (k : ℕ) (c : Check) → WellFormed p → too_large p ≡ false → IsLasso p stem cycle → Hard p stem cycle → KeptIs p stem cycle k
-      → RuledOf outcome.Plan p stem cycle c → c ≡ Tour (record { accepts = true; kept = k; cost = cost p k })
+      → RuledOf (Ok p) stem cycle c → c ≡ Ok (record { accepts = true; kept = k; cost = cost p k })
   own_worth k c ok fits lasso hard kept h =
       ruled_same (judge p) stem cycle c _ (subst (λ r. Ruled r stem cycle c) (tour_judged ok fits lasso) h) (hard_ruled k hard kept)
 
 -- a plan file's own refusals have other numbers, and so has that by the plan's size
-broken : (o : Outcome) (p : Plan) (stem cycle : List ℕ) (c : Check) → Early (reader.number o) → RuledOf o p stem cycle c → number c ≡ 9
-    → (i : ℕ) × (first_break p stem cycle ≡ at i) × (index_of c ≡ held i)
+broken : (r : Result Plan Refusal) (stem cycle : List ℕ) (c : Check) → Early (number_of r) → RuledOf r stem cycle c → number_of c ≡ 9
+    → (p : Plan) × (i : ℕ) × (r ≡ Ok p) × (first_break p stem cycle ≡ at i) × (index_of c ≡ held i)
 unfolding ruling Ruled
-broken (outcome.Refused x) p stem cycle c early h n = absurd (early.none 9 (omega arith) (omega arith) (omega (arith, ap number h)))
-broken outcome.Plan p stem cycle c early h n = by (too_large p) (first_break p stem cycle) refl h
+broken (Err x) stem cycle c early h n = absurd (early.none 9 (omega arith) (omega arith) (omega (arith, ap number_of h)))
+broken (Ok p) stem cycle c early h n = by (too_large p) (first_break p stem cycle) refl h
   where
     by : (large : Bool) (f : Found) → first_break p stem cycle ≡ f → Ruled (cond large (refuse ProductTooLarge) (by_break p f)) stem cycle c
-        → (i : ℕ) × (first_break p stem cycle ≡ at i) × (index_of c ≡ held i)
-    by true f e h = absurd (omega (arith, ap number h))
-    by false nowhere e h = absurd (omega (arith, ap number h.told))
-    by false (at i) e h = (i, e, ap index_of h)
+        → (q : Plan) × (i : ℕ) × (◌≡◌ {A = Result Plan Refusal} (Ok p) (Ok q)) × (first_break q stem cycle ≡ at i) × (index_of c ≡ held i)
+    by true f e h = absurd (omega (arith, ap number_of h))
+    by false nowhere e h = absurd (omega (arith, ap number_of h.told))
+    by false (at i) e h = (p, i, refl, e, ap index_of h)
 
-pub index-of : (file stem cycle : List ℕ) (c : Check) → CheckOf file stem cycle c → number c ≡ 9
-    → (i : ℕ) × (first_break (read_plan file).plan stem cycle ≡ at i) × (index_of c ≡ held i)
-index-of file stem cycle c = broken (read_plan file).outcome (read_plan file).plan stem cycle c (read_early file).0
+pub index-of : (file stem cycle : List ℕ) (c : Check) → CheckOf file stem cycle c → number_of c ≡ 9
+    → (p : Plan) × (i : ℕ) × (read_plan file ≡ Ok p) × (first_break p stem cycle ≡ at i) × (index_of c ≡ held i)
+index-of file stem cycle c = broken (read_plan file) stem cycle c (read_early file).0

@@ -4,24 +4,26 @@
 --   prior_small           == so the place from which the next one is entered is at most 128, the row before the tour included
 --   charted_stopped       == the drive by the table is the drive by the plan
 --   charted_closing       == the closing road, as the table tells it
---   told_at, told_nowhere == the first break as the answer
-use mathlib.Core.Path.{◌≡◌, sym, ap, ◌∙◌}
-use mathlib.Core.Bool.{true, false, not}
+--   stops_stem, stops_empty, stops_loop, stops_open, stops_nowhere == the first break as the answer; loop_below: a loop that is driven whole has places below 128
+use mathlib.Core.Path.{◌≡◌, sym, ap, subst, ◌∙◌}
+use mathlib.Core.Bool.{Bool, true, false, not}
 use mathlib.Core.List.{List}
 use Prim.Native.Nat.{ℕ, zero, suc, ◌+◌, ◌-◌, ◌*◌, ◌≤◌, ◌<◌}
 use native.Mathlib.Decide.{dec_lt}
 use native.Mathlib.Omega.{arith}
-use borrow.Author.Tests.{lt-ltb, le-ltb, ltb-true, eq-eqb, ne_eqb}
+use borrow.Author.Tests.{lt-ltb, le-ltb, ltb-true, eq-eqb, ne_eqb, not-true, not-false}
 use lib.ListN.{length, get_or, get_or-eq_default}
+use Rattle.std.specs.Prelude.{Some, None}
 use Rattle.automata.specs.WellFormed.{Below}
-use Rattle.base.specs.Least.{Found, nowhere, at}
+use Rattle.base.specs.Least.{at}
 use Rattle.plan.specs.declared.Plan.{Plan}
+use Rattle.plan.specs.WellFormed.{WellFormed}
 use Rattle.base.proofs.Tests.{and_intro, and_left}
-use Rattle.checker.specs.Drive.{allowed, on_table, prior_of, Stopped, Charted, unlinked}
+use Rattle.checker.specs.Break.{first_break}
+use Rattle.checker.specs.Drive.{before, allowed, on_table, prior_of, Stopped, Charted, unlinked}
 use Rattle.checker.specs.Outcome.{held, break_of}
 use Rattle.checker.specs.Passing.{closing}
-use Rattle.checker.specs.declared.scan.Break.TheVariants.{Nowhere, At}
-use Rattle.checker.proofs.Drives.{stopped_same}
+use Rattle.checker.proofs.Drives.{stopped_same, break_in_stem, break_no_loop, break_in_loop, break_closing, break_none}
 
 module _ (roads : List ℕ) (places u v : ℕ) where
   pub table_past : places ≤ v → on_table roads places u v ≡ false
@@ -53,9 +55,38 @@ module _ {p : Plan} {roads : List ℕ} (chart : Charted p roads) where
   pub charted_closing : (cycle : List ℕ) → Below 128 cycle → unlinked roads cycle ≡ not (closing p cycle)
   charted_closing cycle h = ap not (chart.linked (get_or cycle (length cycle - 1) 0) (get_or cycle 0 0) (h _) (h 0))
 
-module _ {f : Found} where
-  pub told_at : (i k : ℕ) → f ≡ at i → k ≡ held i → At k ≡ break_of f
-  told_at i k e h = ap At h ∙ ap break_of (sym e)
+-- The first break as the answer: the run-in is driven by the table as far as i, then the loop as far as j.
+module _ {p : Plan} {roads : List ℕ} (ok : WellFormed p) (chart : Charted p roads) (stem cycle : List ℕ) {i : ℕ}
+    (d : Stopped (on_table roads p.places) before stem i) where
+  answered : {n : ℕ} → first_break p stem cycle ≡ at n → (k : ℕ) → k ≡ held n → Some k ≡ break_of (first_break p stem cycle)
+  answered e k h = ap Some h ∙ ap break_of (sym e)
 
-  pub told_nowhere : f ≡ nowhere → Nowhere ≡ break_of f
-  told_nowhere e = ap break_of (sym e)
+  pub stops_stem : i < length stem → (k : ℕ) → k ≡ held i → Some k ≡ break_of (first_break p stem cycle)
+  stops_stem less = answered (break_in_stem p ok stem cycle i (charted_stopped chart d) less)
+
+  module _ (all : length stem ≤ i) where
+    pub stops_empty : length cycle ≡ 0 → (k : ℕ) → k ≡ held (length stem) → Some k ≡ break_of (first_break p stem cycle)
+    stops_empty none = answered (break_no_loop p ok stem cycle i (charted_stopped chart d) all none)
+
+    module _ {from : ℕ} (entered : from ≡ prior_of before stem (length stem)) {j : ℕ}
+        (e : Stopped (on_table roads p.places) from cycle j) where
+      turn_stopped : Stopped (allowed p) (prior_of before stem (length stem)) cycle j
+      turn_stopped = subst (λ u. Stopped (allowed p) u cycle j) entered (charted_stopped chart e)
+
+      pub stops_loop : j < length cycle → (k : ℕ) → k ≡ held (length stem + j) → Some k ≡ break_of (first_break p stem cycle)
+      stops_loop less = answered (break_in_loop p ok stem cycle i (charted_stopped chart d) all j turn_stopped less)
+
+      module _ (filled : 0 < length cycle) (turned : length cycle ≤ j) where
+        pub loop_below : Below 128 cycle
+        loop_below = whole_below roads p.places ok.few from cycle j e turned
+
+        module _ {shut : Bool} (told : shut ≡ unlinked roads cycle) where
+          pub stops_open : shut ≡ true → (k : ℕ) → k ≡ held (length stem + length cycle) → Some k ≡ break_of (first_break p stem cycle)
+          stops_open is =
+              answered (break_closing p ok stem cycle i (charted_stopped chart d) all j turn_stopped turned filled
+              (not-true _ (sym (told ∙ charted_closing chart cycle loop_below) ∙ is)))
+
+          pub stops_nowhere : shut ≡ false → None ≡ break_of (first_break p stem cycle)
+          stops_nowhere is =
+              ap break_of (sym (break_none p ok stem cycle i (charted_stopped chart d) all j turn_stopped turned filled
+              (not-false _ (sym (told ∙ charted_closing chart cycle loop_below) ∙ is))))

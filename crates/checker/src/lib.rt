@@ -2,193 +2,145 @@
 #![tactic(auto)]
 
 ghost use Rattle.std.specs.Prelude.{◌≡◌, ◌++◌, ◌≤◌, ◌<◌, length, drop};
-ghost use Rattle.text.specs.Over.{Wrote};
-ghost use Rattle.checker.specs.Block.{flag as flag_of, head_of, block_of};
+ghost use Rattle.checker.specs.Block.{block_of};
 ghost use Rattle.plan.specs.Cost.{KeptIs};
 ghost use Rattle.plan.specs.WellFormed.{WellFormed};
-ghost use Rattle.reader.specs.declared.Outcome.TheVariants as Outcome;
-ghost use Rattle.checker.specs.Check.{number, line_of, index_of, worth_of, Worthy, RuledOf, CheckOf};
+ghost use Rattle.checker.specs.Check.{worth_of, Worthy, RuledOf, CheckOf};
+ghost use Rattle.acceptance.specs.Rule.{Usable, Judged};
 ghost use Rattle.checker.specs.Worth.{Known, KeptBit};
 
 use acceptance::accepts;
-use answer::{put_little, put_wide};
+use answer::{put_head, put_little};
+use automata::Automaton;
 use plan::size::size_of;
-use plan::{Plan, Refusal, cost_of, refusal_index, refusal_line, refusal_number};
-use reader::{Outcome, read_plan};
-use scan::{Break, first_break};
+use plan::{Plan, Refusal, cost_of, index_of, line_of, number_of};
+use reader::read_plan;
+use scan::first_break;
 
 pub mod scan;
 
 // What a tour is worth: whether the hard rule accepts it, the soft rules that do as bits, and its cost.
-#[derive(Clone, Copy)]
+#[derive(Clone, Copy, Debug, Default, PartialEq, Eq)]
 pub struct Worth {
     pub accepts: bool,
     pub kept: u64,
     pub cost: u64,
 }
 
-// What the checker answers.
-#[derive(Clone, Copy)]
-pub enum Check {
-    Refused(Refusal),
-    Tour(Worth),
-}
-
-// The number of the refusal, 0 for a tour.
-pub fn check_number(check: Check) -> u32
-    ensures { result ≡ number check }
-{
-    match check {
-        Check::Refused(refusal) => refusal_number(refusal),
-        Check::Tour(_) => 0,
-    }
-}
-
-// The line that comes with it, 0 where there is none.
-pub fn check_line(check: Check) -> usize
-    ensures { result ≡ line_of check }
-{
-    match check {
-        Check::Refused(refusal) => refusal_line(refusal),
-        Check::Tour(_) => 0,
-    }
-}
-
-// The index that comes with it, 0 where there is none.
-pub fn check_index(check: Check) -> u64
-    ensures { result ≡ index_of check }
-{
-    match check {
-        Check::Refused(refusal) => refusal_index(refusal),
-        Check::Tour(_) => 0,
-    }
-}
-
 // What the tour is worth; all of it is 0 on a refusal.
-pub fn worth_of(check: Check) -> Worth
+pub fn worth_of(check: Result<Worth, Refusal>) -> Worth
     ensures { result ≡ worth_of check }
 {
-    match check {
-        Check::Refused(_) => Worth {
-            accepts: false,
-            kept: 0,
-            cost: 0,
-        },
-        Check::Tour(worth) => worth,
-    }
+    check.unwrap_or_default()
 }
 
-// 1 for true.
-pub fn flag(b: bool) -> u32
-    ensures { result ≡ flag_of b }
-{
-    if b {
-        return 1;
-    }
-    0
+// A tour of a plan, drawn in places of the plan.
+#[derive(Clone, Copy)]
+struct Tour<'a> {
+    plan: Plan,
+    stem: &'a [u8],
+    cycle: &'a [u8],
+    ghost well: { WellFormed plan },
+    ghost known: { Known plan stem.now cycle.now },
 }
 
-// Bit i of the kept byte: `weight`, its power of 2, where soft rule i + 1 accepts the tour.
-fn kept_of(p: Plan, i: usize, weight: u64, stem: &[u8], cycle: &[u8]) -> u64
-    requires { WellFormed p × Known p stem.now cycle.now × (i < p.rules) }
-    ensures { KeptBit p stem.now cycle.now i weight result }
-{
-    let labels = p.labels;
-    let places = p.places as usize;
-    let a = p.soft[i];
-    if accepts(a, &labels, places, stem, cycle) {
-        return weight;
+impl Tour<'_> {
+    // Whether a rule accepts it.
+    fn accepted_by(&self, a: Automaton) -> bool
+        requires { Usable a }
+        ensures { Judged a self.now.plan.labels self.now.stem.now self.now.cycle.now result }
+    {
+        accepts(
+            a,
+            &self.plan.labels,
+            self.plan.places as usize,
+            self.stem,
+            self.cycle,
+        )
     }
-    0
-}
 
-// The kept byte of a tour.
-fn kept_by(p: Plan, stem: &[u8], cycle: &[u8]) -> u64
-    requires { WellFormed p × Known p stem.now cycle.now }
-    ensures { KeptIs p stem.now cycle.now result }
-{
-    let rules = p.rules as usize;
-    let mut kept: u64 = 0;
-    let mut weight: u64 = 1;
-    let mut i = 0;
-    while i < rules {
-        kept = kept + kept_of(p, i, weight, stem, cycle);
-        weight = weight * 2;
-        i += 1;
+    // Bit i of its kept byte: `weight`, its power of 2, where soft rule i + 1 accepts it.
+    fn kept_of(&self, i: usize, weight: u64) -> u64
+        requires { i < self.now.plan.rules }
+        ensures { KeptBit self.now.plan self.now.stem.now self.now.cycle.now i weight result }
+    {
+        if self.accepted_by(self.plan.soft[i]) {
+            weight
+        } else {
+            0
+        }
     }
-    kept
-}
 
-// What a tour of the plan is worth.
-fn appraise(p: Plan, stem: &[u8], cycle: &[u8]) -> Worth
-    requires { WellFormed p × Known p stem.now cycle.now }
-    ensures { Worthy p stem.now cycle.now result }
-{
-    let labels = p.labels;
-    let places = p.places as usize;
-    let hard = p.hard;
-    let accepts = accepts(hard, &labels, places, stem, cycle);
-    let kept = kept_by(p, stem, cycle);
-    let weights = p.weights;
-    let cost = cost_of(&weights, p.rules as usize, kept);
-    Worth {
-        accepts,
-        kept,
-        cost,
+    // Its kept byte.
+    fn kept(&self) -> u64
+        ensures { KeptIs self.now.plan self.now.stem.now self.now.cycle.now result }
+    {
+        let mut kept = 0;
+        let mut weight = 1;
+        for i in 0..self.plan.rules as usize {
+            kept += self.kept_of(i, weight);
+            weight *= 2;
+        }
+        kept
+    }
+
+    // What it is worth.
+    fn worth(&self) -> Worth
+        ensures { Worthy self.now.plan self.now.stem.now self.now.cycle.now result }
+    {
+        let accepts = self.accepted_by(self.plan.hard);
+        let kept = self.kept();
+        let cost = cost_of(&self.plan.weights, self.plan.rules as usize, kept);
+        Worth {
+            accepts,
+            kept,
+            cost,
+        }
     }
 }
 
 // The answer to a plan that was read: the refusal of a product that is too large or of a tour that breaks, or what the tour is worth.
-fn check_plan(p: Plan, stem: &[u8], cycle: &[u8]) -> Check
+fn check_plan(p: Plan, stem: &[u8], cycle: &[u8]) -> Result<Worth, Refusal>
     requires { WellFormed p }
-    ensures { RuledOf Outcome.Plan p stem.now cycle.now result }
+    ensures { RuledOf (Ok p) stem.now cycle.now result }
 {
-    let size = size_of(p);
-    if size.large {
-        return Check::Refused(Refusal::ProductTooLarge);
+    if size_of(p).is_none() {
+        return Err(Refusal::ProductTooLarge);
     }
-    let found = first_break(p, stem, cycle);
-    match found {
-        Break::At(i) => Check::Refused(Refusal::Broken(i)),
-        Break::Nowhere => Check::Tour(appraise(p, stem, cycle)),
+    match first_break(p, stem, cycle) {
+        Some(i) => Err(Refusal::Broken(i)),
+        None => {
+            let tour = Tour {
+                plan: p,
+                stem,
+                cycle,
+            };
+            Ok(tour.worth())
+        }
     }
 }
 
 // The answer to a plan file and a proposed tour.
-pub fn check_tour(plan: &[u8], runin: &[u8], cycle: &[u8]) -> Check
+pub fn check_tour(plan: &[u8], runin: &[u8], cycle: &[u8]) -> Result<Worth, Refusal>
     ensures { CheckOf plan.now runin.now cycle.now result }
 {
-    let reading = read_plan(plan);
-    let outcome = reading.outcome;
-    let p = reading.plan;
-    match outcome {
-        Outcome::Plan => check_plan(p, runin, cycle),
-        Outcome::Refused(x) => Check::Refused(x),
-    }
-}
-
-// The first 16 bytes of a check's block.
-fn put_head(number: u32, line: usize, worth: Worth, block: &mut [u8])
-    requires { 16 ≤ length block.old }
-    ensures { Wrote block.old 0 (head_of number line worth) block.new 16 }
-{
-    put_little(block, 0, 1, number);
-    put_wide(block, 1, 1, worth.kept);
-    put_little(block, 2, 1, flag(worth.accepts));
-    put_little(block, 3, 1, 0);
-    put_wide(block, 4, 4, line as u64);
-    put_wide(block, 8, 4, worth.cost);
-    put_little(block, 12, 4, 0);
+    check_plan(read_plan(plan)?, runin, cycle)
 }
 
 // The block of a check: the first 24 bytes of `block`. Its later bytes are unchanged.
-pub fn put_check(check: Check, block: &mut [u8])
+pub fn put_check(check: Result<Worth, Refusal>, block: &mut [u8])
     requires { 24 ≤ length block.old }
     ensures { block.new ≡ block_of check ++ drop 24 block.old }
 {
-    let number = check_number(check);
-    let line = check_line(check);
     let worth = worth_of(check);
-    put_head(number, line, worth, block);
-    put_wide(block, 16, 8, check_index(check));
+    put_head(
+        block,
+        number_of(&check),
+        worth.kept,
+        u64::from(worth.accepts),
+        line_of(&check),
+        worth.cost,
+    );
+    put_little(block, 12, 4, 0);
+    put_little(block, 16, 8, index_of(&check));
 }

@@ -9,13 +9,6 @@ ghost use Rattle.checker.specs.Outcome.{break_of};
 
 use plan::Plan;
 
-// Where a tour breaks first, if it does; an index that 64 bits cannot hold is given as the greatest that they hold.
-#[derive(Clone, Copy)]
-pub enum Break {
-    Nowhere,
-    At(u64),
-}
-
 // The row of the table that stands for the time before the tour: its one road leads to the start.
 const BEFORE: usize = 128;
 
@@ -34,9 +27,8 @@ fn driven(roads: &[u8], places: usize, from: usize, list: &[u8]) -> usize
     ensures { Stopped (on_table roads.now places) from list.now result }
 {
     let mut u = from;
-    let mut i = 0;
-    while i < list.len() {
-        let v = list[i] as usize;
+    for (i, v) in list.iter().enumerate() {
+        let v = usize::from(*v);
         if places <= v {
             return i;
         }
@@ -44,30 +36,25 @@ fn driven(roads: &[u8], places: usize, from: usize, list: &[u8]) -> usize
             return i;
         }
         u = v;
-        i += 1;
     }
-    i
+    list.len()
 }
 
 // The sum of two lengths, held at the most that 64 bits hold.
 fn held_sum(a: usize, b: usize) -> u64
     ensures { result ≡ min (a + b) 18446744073709551615 }
 {
-    if usize::MAX - a < b {
-        return u64::MAX;
-    }
-    (a + b) as u64
+    a.saturating_add(b) as u64
 }
 
 // The place from which the loop is entered.
 fn before_loop(stem: &[u8]) -> usize
     ensures { result ≡ prior_of before stem.now (length stem.now) }
 {
-    let n = stem.len();
-    if n == 0 {
-        return BEFORE;
+    match stem.last() {
+        Some(v) => usize::from(*v),
+        None => BEFORE,
     }
-    stem[n - 1] as usize
 }
 
 // Whether the closing road is missing.
@@ -75,13 +62,13 @@ fn is_open(roads: &[u8], cycle: &[u8]) -> bool
     requires { (length roads.now ≡ 16512) × (0 < length cycle.now) × Below 128 cycle.now }
     ensures { result ≡ unlinked roads.now cycle.now }
 {
-    let last = cycle[cycle.len() - 1] as usize;
-    let first = cycle[0] as usize;
+    let last = usize::from(cycle[cycle.len() - 1]);
+    let first = usize::from(cycle[0]);
     roads[last * 128 + first] != 1
 }
 
-// The first break, by way of the table. The plan is not looked at: the contract speaks of it.
-fn break_in(p: Plan, roads: &[u8], stem: &[u8], cycle: &[u8]) -> Break
+// The first break, by way of the table. Of the plan only the number of places is looked at: the contract speaks of it.
+fn break_in(p: Plan, roads: &[u8], stem: &[u8], cycle: &[u8]) -> Option<u64>
     requires { WellFormed p × Charted p roads.now }
     ensures { result ≡ break_of (first_break p stem.now cycle.now) }
 {
@@ -90,35 +77,27 @@ fn break_in(p: Plan, roads: &[u8], stem: &[u8], cycle: &[u8]) -> Break
     let l = cycle.len();
     let i = driven(roads, places, BEFORE, stem);
     if i < r {
-        return Break::At(i as u64);
+        return Some(i as u64);
     }
     if l == 0 {
-        return Break::At(r as u64);
+        return Some(r as u64);
     }
     let j = driven(roads, places, before_loop(stem), cycle);
     if j < l {
-        return Break::At(held_sum(r, j));
+        return Some(held_sum(r, j));
     }
     if is_open(roads, cycle) {
-        return Break::At(held_sum(r, l));
+        return Some(held_sum(r, l));
     }
-    Break::Nowhere
+    None
 }
 
-// The first break, with a table in which nothing stands.
-fn break_on(p: Plan, roads: &mut [u8], stem: &[u8], cycle: &[u8]) -> Break
-    requires { WellFormed p × Blank roads.old × (length roads.old ≡ 16512) }
-    ensures { result ≡ break_of (first_break p stem.now cycle.now) }
-{
-    chart(p, roads);
-    break_in(p, roads, stem, cycle)
-}
-
-// The first break of a proposed tour of a plan.
-pub fn first_break(p: Plan, stem: &[u8], cycle: &[u8]) -> Break
+// The first break of a proposed tour of a plan, if it breaks; an index that 64 bits cannot hold is given as the greatest that they hold.
+pub fn first_break(p: Plan, stem: &[u8], cycle: &[u8]) -> Option<u64>
     requires { WellFormed p }
     ensures { result ≡ break_of (first_break p stem.now cycle.now) }
 {
     let mut roads = [0u8; 16512];
-    break_on(p, &mut roads, stem, cycle)
+    chart(p, &mut roads);
+    break_in(p, &roads, stem, cycle)
 }

@@ -3,17 +3,17 @@
 //! sentence on standard error tells why.
 #![tactic(auto)]
 
-ghost use Rattle.std.specs.Prelude.{◌≡◌, ◌≤◌, length, IfOk, OnErr};
+ghost use Rattle.std.specs.Prelude.{◌≡◌, ◌≤◌, length, IfOk, OnErr, IfSome};
 
-use checker::{Check, check_index, check_line, check_number, check_tour, flag, worth_of};
-use drawn::{Drawn, Lack, read_tour};
+use checker::{Worth, check_tour, worth_of};
+use drawn::{Lack, read_tour};
 use frames::read_full;
+use plan::{Refusal, index_of, line_of, number_of};
 use std::env::{Env, FillError};
 use std::io::{Read, Write};
 use std::rt::Files;
 use std::{fs, io, str};
-use text::fault::{Fault, fault_line};
-use text::read::wide;
+use text::fault::fault_line;
 
 // The longest text that is read for a tour.
 const MOST: usize = 2000000;
@@ -23,30 +23,18 @@ const NAME_TOO_LONG: i32 = 36;
 
 const NOT_TEXT: i32 = 84;
 
-// Whether a file was read, and how many bytes it has.
-#[derive(Clone, Copy)]
-struct File {
-    read: bool,
-    length: usize,
-}
-
 fn print_line(rt: &impl Print, key: &str, x: u64) -> io::Result<()> {
     println!(rt; "{key}={x}")
 }
 
-fn print_check(rt: &impl Print, check: Check) -> io::Result<()> {
+fn print_check(rt: &impl Print, check: Result<Worth, Refusal>) -> io::Result<()> {
     let worth = worth_of(check);
-    print_line(rt, "number", wide(check_number(check)))?;
-    print_line(rt, "line", check_line(check) as u64)?;
-    print_line(rt, "index", check_index(check))?;
-    print_line(rt, "accepts", wide(flag(worth.accepts)))?;
+    print_line(rt, "number", u64::from(number_of(&check)))?;
+    print_line(rt, "line", line_of(&check) as u64)?;
+    print_line(rt, "index", index_of(&check))?;
+    print_line(rt, "accepts", u64::from(worth.accepts))?;
     print_line(rt, "cost", worth.cost)?;
     print_line(rt, "kept", worth.kept)
-}
-
-fn say_fault(rt: &impl Eprint, fault: Fault) -> io::Result<()> {
-    let line = fault_line(fault);
-    eprintln!(rt; "checktour: line {line} of the tour has a fault")
 }
 
 fn say_long(rt: &impl Eprint) -> io::Result<()> {
@@ -56,7 +44,12 @@ fn say_long(rt: &impl Eprint) -> io::Result<()> {
 fn say_lack(rt: &impl Eprint, lack: Lack) -> io::Result<()> {
     match lack {
         Lack::Missing => eprintln!(rt; "checktour: no line of the tour begins with runin="),
-        Lack::Faulty(fault) => say_fault(rt, fault),
+        Lack::Faulty(fault) => {
+            eprintln!(rt;
+                "checktour: line {} of the tour has a fault",
+                fault_line(fault)
+            )
+        }
         Lack::Long => say_long(rt),
     }
 }
@@ -81,14 +74,9 @@ fn check_text<R: Print + Eprint>(
     runin: &mut [u8],
     cycle: &mut [u8],
 ) -> io::Result<()> {
-    let drawn = read_tour(text, runin, cycle);
-    match drawn {
-        Drawn::Tour(x) => {
-            let stem = x.stem;
-            let turn = x.cycle;
-            print_check(rt, check_tour(plan, &runin[..stem], &cycle[..turn]))
-        }
-        Drawn::Nothing(lack) => say_lack(rt, lack),
+    match read_tour(text, runin, cycle) {
+        Ok(x) => print_check(rt, check_tour(plan, &runin[..x.stem], &cycle[..x.cycle])),
+        Err(lack) => say_lack(rt, lack),
     }
 }
 
@@ -106,73 +94,44 @@ fn open_file<R: Env + Files>(rt: &R, i: usize) -> io::Result<R::File> {
     Ok(file)
 }
 
-// Reads the file that argument i names, as far as the buffer has room. Where it cannot be read, the sentence is said with the reason.
+// Reads the file that argument i names, as far as the buffer has room; gives how many bytes it has. Where it cannot be read, the
+// sentence is said with the reason.
 fn read_file<R: Env + Files + Eprint>(
     rt: &R,
     i: usize,
     sentence: &str,
     buffer: &mut [u8],
-) -> io::Result<File>
-    ensures ok { IfOk result (λ f. f.length ≤ length buffer.new) }
+) -> io::Result<Option<usize>>
+    ensures ok { IfOk result (λ f. IfSome f (λ n. n ≤ length buffer.new)) }
     ensures err { OnErr result (buffer.new ≡ buffer.old) }
 {
     match open_file(rt, i) {
-        Ok(mut file) => {
-            let length = read_full(&mut file, buffer);
-            Ok(File { read: true, length })
-        }
+        Ok(mut file) => Ok(Some(read_full(&mut file, buffer))),
         Err(error) => {
             say_unread(rt, sentence, error)?;
-            Ok(File {
-                read: false,
-                length: 0,
-            })
+            Ok(None)
         }
     }
 }
 
-fn check_within<R: Print + Eprint>(
-    rt: &R,
-    plan: &[u8],
-    text: &[u8],
-    runin: &mut [u8],
-    cycle: &mut [u8],
-) -> io::Result<()> {
-    if text.len() <= MOST {
-        check_text(rt, plan, text, runin, cycle)
-    } else {
-        say_long(rt)
-    }
-}
-
+// Plan and text have room for one byte more than the longest: of a longer file no more is read.
 fn check_files<R: Env + Files + Print + Eprint>(
-    rt: &R,
-    plan: &mut [u8],
-    text: &mut [u8],
-    runin: &mut [u8],
-    cycle: &mut [u8],
-) -> io::Result<()> {
-    let a = read_file(rt, 1, "checktour: the plan cannot be read", plan)?;
-    let p = a.length;
-    if a.read {
-        let b = read_file(rt, 2, "checktour: the tour cannot be read", text)?;
-        let t = b.length;
-        if b.read {
-            check_within(rt, &plan[..p], &text[..t], runin, cycle)?;
-        }
-    }
-    Ok(())
-}
-
-// Lends the arrays as slices. Plan and text have room for one byte more than the longest: of a longer file no more is read.
-fn check_in<R: Env + Files + Print + Eprint>(
     rt: &R,
     plan: &mut [u8; 60001],
     text: &mut [u8; 2000001],
     runin: &mut [u8; 1000000],
     cycle: &mut [u8; 1000000],
 ) -> io::Result<()> {
-    check_files(rt, plan, text, runin, cycle)
+    let Some(p) = read_file(rt, 1, "checktour: the plan cannot be read", plan)? else {
+        return Ok(());
+    };
+    let Some(t) = read_file(rt, 2, "checktour: the tour cannot be read", text)? else {
+        return Ok(());
+    };
+    if MOST < t {
+        return say_long(rt);
+    }
+    check_text(rt, &plan[..p], &text[..t], runin, cycle)
 }
 
 // Whether there is an argument i, however long it is.
@@ -188,5 +147,5 @@ fn main(rt: HostRuntime) -> io::Result<()> {
     let mut text = [0u8; 2000001];
     let mut runin = [0u8; 1000000];
     let mut cycle = [0u8; 1000000];
-    check_in(&rt, &mut plan, &mut text, &mut runin, &mut cycle)
+    check_files(&rt, &mut plan, &mut text, &mut runin, &mut cycle)
 }

@@ -1,3 +1,4 @@
 pub mod Best
 pub mod Component
 pub mod Sweep
+pub mod Picked

@@ -20,38 +20,13 @@ pub fn answer_text(room: &mut [u8], n: usize, runin: &mut [u8], cycle: &mut [u8]
     write_text(a, &runin[..stem], &cycle[..turn], room)
 }
 
-// Prints the answer to a plan file, by way of the buffers.
-fn print_on(
-    rt: &impl Print,
-    room: &mut [u8],
-    n: usize,
-    runin: &mut [u8],
-    cycle: &mut [u8],
-) -> io::Result<()>
-    requires { (n ≤ length room.old) × (128 + 4 * (length runin.old + length cycle.old) ≤ length room.old) }
-{
-    let size = answer_text(room, n, runin, cycle);
-    rt.write_all(&room[..size])
-}
-
-// Lends the buffers as slices. Run-in and loop have room for every tour, so that refusal 5 is never given.
-fn print_in(
-    rt: &impl Print,
-    room: &mut [u8; 90240],
-    n: usize,
-    runin: &mut [u8; 2048],
-    cycle: &mut [u8; 20480],
-) -> io::Result<()>
-    requires { n ≤ 90240 }
-{
-    print_on(rt, room, n, runin, cycle)
-}
-
-// Prints what the planner answers to a plan file, which is the first n bytes of `room`; its answer is written there, too.
+// Prints what the planner answers to a plan file, which is the first n bytes of `room`; its answer is written there, too. Run-in and
+// loop have room for every tour, so that refusal 5 is never given.
 pub fn print_answer(rt: &impl Print, room: &mut [u8; 90240], n: usize) -> io::Result<()>
     requires { n ≤ 90240 }
 {
     let mut runin = [0u8; 2048];
     let mut cycle = [0u8; 20480];
-    print_in(rt, room, n, &mut runin, &mut cycle)
+    let size = answer_text(room, n, &mut runin, &mut cycle);
+    rt.write_all(&room[..size])
 }

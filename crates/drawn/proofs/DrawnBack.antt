@@ -27,7 +27,7 @@ use Rattle.answer.specs.Text.{answer_key, line_key, cost_key, kept_key, runin_ke
 use Rattle.answer.specs.declared.Answer.{Answer}
 use Rattle.answer.proofs.Texts.{lines_of, text_lines}
 use Rattle.drawn.specs.Drawing.{line_with, runin_at, draft_at, fitting, read_tour, runin_of, loop_of}
-use Rattle.drawn.specs.declared.Drawn.TheVariants.{Tour}
+use Rattle.std.specs.Prelude.{Option, Some, Ok}
 
 line_ended : (key w d : List ℕ) (i : ℕ) → newlines w ≡ 0 → line_with key false i (w ++ (10 ∷ d)) ≡ line_with key true (i + length w + 1) d
 unfolding line_with newlines
@@ -56,26 +56,15 @@ line_passed key k value d i e hk hv =
     ∙ ap (λ (n : ℕ). line_with key true n d) (omega (arith, length-append k value, length-append k (value ++ (10 ∷ [])), length-append value (10 ∷ [])))
 
 pub record Read (s : List ℕ) (r l : ℕ) (stem cycle : List ℕ) : Type 0 where
-  pub tour : read_tour s r l ≡ Tour (record { stem = length stem; cycle = length cycle })
+  pub tour : read_tour s r l ≡ Ok (record { stem = length stem; cycle = length cycle })
   pub runin : runin_of s ≡ stem
   pub loop : loop_of s ≡ cycle
 
 module _ (s : List ℕ) (r l : ℕ) (stem cycle rest : List ℕ) (stem_room : length stem ≤ r) (cycle_room : length cycle ≤ l)
     (stem_bytes : under 256 stem ≡ true) (cycle_bytes : under 256 cycle ≡ true)
-    (at : ℕ) (begun : runin_at s ≡ at) (there : drop at s ≡ key_line runin_key (joined stem) ++ (key_line loop_key (joined cycle) ++ rest)) where
+    (at : ℕ) (begun : runin_at s ≡ Some at) (there : drop at s ≡ key_line runin_key (joined stem) ++ (key_line loop_key (joined cycle) ++ rest)) where
   loop_there : drop (at + length (key_line runin_key (joined stem))) s ≡ key_line loop_key (joined cycle) ++ rest
   loop_there = line_rest s at runin_key _ _ there
-
-  inside : at < length s
-  unfolding key_line
-  inside =
-      omega (
-        arith,
-        length-drop at s,
-        ap length there,
-        length-append (key_line runin_key (joined stem)) (key_line loop_key (joined cycle) ++ rest),
-        length-append runin_key (joined stem ++ (10 ∷ [])),
-      )
 
   pub lines_read : Read s r l stem cycle
   unfolding read_tour draft_at fitting
@@ -83,12 +72,12 @@ module _ (s : List ℕ) (r l : ℕ) (stem cycle rest : List ℕ) (stem_room : le
       let one = list_back s at runin_key stem _ there 256 stem_bytes (pair 0 0) in
       let two = list_back s (at + length (key_line runin_key (joined stem))) loop_key cycle rest loop_there 256 cycle_bytes (pair 0 0) in
       record {
-        tour = rw (begun, lt-ltb at (length s) inside, one, two, le-leb (length stem) r stem_room, le-leb (length cycle) l cycle_room);
+        tour = rw (begun, one, two, le-leb (length stem) r stem_room, le-leb (length cycle) l cycle_room);
         runin = rw (begun, one) (places_back s at runin_key stem _ there);
         loop = rw (begun, one, two) (places_back s (at + length (key_line runin_key (joined stem))) loop_key cycle rest loop_there);
       }
 
-runin_here : (value d : List ℕ) (i : ℕ) → line_with runin_key true i (key_line runin_key value ++ d) ≡ i
+runin_here : (value d : List ℕ) (i : ℕ) → line_with runin_key true i (key_line runin_key value ++ d) ≡ Some i
 unfolding line_with key_line starts_with
 runin_here value d i = refl
 
@@ -110,7 +99,7 @@ module _ (a : Answer) (stem cycle : List ℕ) where
       let cost_there = line_rest (lines_of a stem cycle) line_at_lem line_key (decimal a.line) _ line_there in
       let kept_there = line_rest (lines_of a stem cycle) cost_at cost_key (decimal a.cost) _ cost_there in
       let stem_there = line_rest (lines_of a stem cycle) kept_at kept_key (decimal a.kept) _ kept_there in
-      let begun : runin_at (lines_of a stem cycle) ≡ stem_at =
+      let begun : runin_at (lines_of a stem cycle) ≡ Some stem_at =
       line_passed runin_key answer_key (decimal a.number) _ 0 refl refl (newlines_decimal _)
       ∙ line_passed runin_key line_key (decimal a.line) _ line_at_lem refl refl (newlines_decimal _)
       ∙ line_passed runin_key cost_key (decimal a.cost) _ cost_at refl refl (newlines_decimal _)

@@ -15,6 +15,7 @@ use lib.Count.{ones}
 use lib.ListN.{length, get_or-append}
 use lib.Dec.{leb}
 use Rattle.base.proofs.Tests.{and_intro, and_left, and_right, false_not_true}
+use Rattle.std.specs.Prelude.{Ok, Err}
 use Rattle.plan.specs.WellFormed.{WellFormed}
 use Rattle.plan.specs.Size.{size, loop_room, too_large, roomy}
 use Rattle.plan.specs.Tour.{parks, IsLasso, Hard}
@@ -25,7 +26,6 @@ use Rattle.plan.specs.declared.Refusal.{Refusal}
 use Rattle.plan.specs.declared.Refusal.TheVariants as cause
 use Rattle.plan.proofs.Tours.{parked_loop, parked_stem}
 use Rattle.reader.specs.Reading.{read_plan}
-use Rattle.reader.specs.declared.Outcome.TheVariants as outcome
 use Rattle.reader.proofs.WellRead.{read_well}
 use Rattle.answer.specs.declared.Answer.{Answer}
 use Rattle.promise.specs.Promise.{verdict, refuse, go, NoTour, TourOf, Planned, none, tour as found, Refused, Told, AnswerTo}
@@ -94,7 +94,7 @@ heard text room x tells b b' r h f P =
     let t = tells b b' A.answer f A.told in
     (A.returned ∙ t.number, subst (Tells x) (sym (block_exact text b b' r h P)) t)
 
-pub turned_away : (text : List ℕ) (x : Refusal) → (read_plan text).outcome ≡ outcome.Refused x → Turned text (refused.number x) (refused.line_of x)
+pub turned_away : (text : List ℕ) (x : Refusal) → read_plan text ≡ Err x → Turned text (refused.number x) (refused.line_of x)
 unfolding verdict Told
 turned_away text x o b b' r h P =
     let A = answered text b b' r h P in
@@ -102,11 +102,9 @@ turned_away text x o b b' r h P =
     let e = block_exact text b b' r h P in
     (A.returned ∙ ap (λ a. a.number) t.answer, ap (λ a. a.number) e ∙ ap (λ a. a.number) t.answer, ap (λ a. a.line) e ∙ ap (λ a. a.line) t.answer)
 
-pub repeated : (text : List ℕ) → (read_plan text).outcome ≡ outcome.Plan → parks (read_plan text).plan (read_plan text).plan.start ≡ true
-    → Repeated text (read_plan text).plan.start
+pub repeated : (text : List ℕ) (plan : Plan) → read_plan text ≡ Ok plan → parks plan plan.start ≡ true → Repeated text plan.start
 unfolding verdict
-repeated text o parked b b' h P =
-    let plan = (read_plan text).plan in
+repeated text plan o parked b b' h P =
     let A = answered text b b' 0 h P in
     let t = told_tour plan (too_large plan) (roomy plan (length b.runin) (length b.loop)) (rw o at A.told) (sym A.returned) in
     let e = block_exact text b b' 0 h P ∙ t.answer in
@@ -117,16 +115,13 @@ repeated text o parked b b' h P =
       λ i l. let k : i < length t.cycle = rw (ap (λ a. a.cycle) e) at l in rw t.cycle_text (get_or-append t.cycle _ 0 i k ∙ stay i k),
     )
 
-module _ (text : List ℕ) (room : Room) (o : (read_plan text).outcome ≡ outcome.Plan) (small : size (read_plan text).plan ≤ 2048) where
-  abbrev plan : Plan
-  plan = (read_plan text).plan
-
+module _ (text : List ℕ) (room : Room) (plan : Plan) (o : read_plan text ≡ Ok plan) (small : size plan ≤ 2048) where
   pub answers_tour : enough room plan ≡ true → (k : ℕ) → Best plan k → (stem cycle : List ℕ) → IsLasso plan stem cycle → Hard plan stem cycle → KeptIs plan stem cycle k
       → Answers text room (tour (cost plan k) k (ones k))
   unfolding verdict Told
   answers_tour e k best stem cycle lasso hard kept =
       heard text room (tour (cost plan k) k (ones k)) (λ b b' a f t.
-      planned_tour plan (read_well text o) k best stem cycle lasso hard kept (rw (o, le-ltb 2048 (size plan) small, enough_roomy room plan b e f) at t))
+      planned_tour plan (read_well text plan o) k best stem cycle lasso hard kept (rw (o, le-ltb 2048 (size plan) small, enough_roomy room plan b e f) at t))
 
   pub answers_none : enough room plan ≡ true → NoTour plan → Answers text room (refusal 6)
   unfolding verdict Told

@@ -13,6 +13,7 @@ use borrow.Author.Tests.{eqb-true, ne_eqb, ltb-true, leb-true}
 use lib.Count.{ones, ones_in}
 use lib.ListN.{length, get_or}
 use lib.Dec.{eqb, leb}
+use Rattle.std.specs.Prelude.{Result, Ok, Err}
 use Rattle.base.specs.Below.{any_below, product_below, sum_below, all_below}
 use Rattle.automata.specs.Automaton.{guard, fits, leads, step, blocked, trap_step, final}
 use Rattle.automata.specs.Acceptance.{lasso_at}
@@ -25,6 +26,7 @@ use Rattle.plan.specs.Cost.{keeps, KeptIs, cost, cost_of, Better}
 use Rattle.plan.specs.Key.{tie, key_of, key}
 use Rattle.plan.specs.Refusal as refused
 use Rattle.plan.specs.declared.Plan.{Plan}
+use Rattle.plan.specs.declared.Refusal.{Refusal}
 use Rattle.plan.proofs.Keys.{key_mono, key_better}
 use Rattle.text.specs.Scan.{starts_with, is_digit, canonical, digit_count, value, leading, number_at, key_at, newlines, line_at}
 use Rattle.text.specs.Line.{within, line_of_one, finish}
@@ -32,8 +34,6 @@ use Rattle.reader.specs.Line.{road_line, move_line}
 use Rattle.reader.specs.Blocks.{repeat, label_block, road_block, move_block, automaton_block, hard_block, soft_block, soft_blocks}
 use Rattle.reader.specs.Map.{map_of}
 use Rattle.reader.specs.Reading.{draft_of, answer, read_plan}
-use Rattle.reader.specs.declared.Outcome.{Outcome}
-use Rattle.reader.specs.declared.Outcome.TheVariants as outcome
 use Rattle.reader.proofs.WellRead.{read_well}
 use Rattle.tuples.specs.Radix.{stride, encode}
 use Rattle.product.specs.Product.{radices, tuple, node_of, arc_of, colours_below}
@@ -44,7 +44,7 @@ use Rattle.serve.specs.Upcoming.{upcoming_places}
 use Rattle.figures.specs.Bytes.{bytes}
 use Rattle.figures.specs.Certificate.{implies, every_of, some_of, listed, shades, parted, walks_by}
 use Rattle.figures.specs.Claim.{Room, Numbers, tour, refusal, Answers, Turned, Repeated, Dear, Tied}
-use Rattle.figures.specs.Figure.{Route, Reason, best, none, short, Figure, answers, turned, repeats, dear, tied, served, plan_of, Holds}
+use Rattle.figures.specs.Figure.{Route, Reason, best, none, short, Figure, answers, turned, repeats, dear, tied, served, plan_in, plan_of, Holds}
 use Rattle.figures.specs.Figure.{is_plan, turned_as, all_of, alike, reason_tests, lighter, dear_tests, tied_tests, same, is_read, passes}
 use Rattle.figures.specs.Cases.{figures}
 use Rattle.figures.proofs.Certificates.{mp, offered, best_by, none_by}
@@ -66,18 +66,15 @@ alike_sound x y h =
     let count = eqb-true x.count y.count (test 3) in
     λ i. record { number = number i; cost = cost i; kept = kept i; count = count i }
 
-plan_sound : (o : Outcome) → is_plan o ≡ true → o ≡ outcome.Plan
-plan_sound (outcome.Refused x) h = absurd (false_not_true h refl)
-plan_sound outcome.Plan h = refl
+plan_sound : (r : Result Plan Refusal) → is_plan r ≡ true → r ≡ Ok (plan_in r)
+plan_sound (Ok p) h = refl
+plan_sound (Err x) h = absurd (false_not_true h refl)
 
 -- ---- an answer
 
-module _ (text : List ℕ) (room : Room) (x : Numbers) (o : (read_plan text).outcome ≡ outcome.Plan) (small : size (read_plan text).plan ≤ 2048) where
-  abbrev p : Plan
-  p = (read_plan text).plan
-
+module _ (text : List ℕ) (room : Room) (x : Numbers) (p : Plan) (o : read_plan text ≡ Ok p) (small : size p ≤ 2048) where
   ok : WellFormed p
-  ok = read_well text o
+  ok = read_well text p o
 
   reason_holds : (by : Reason) → all_of (reason_tests p room x by) ≡ true → Answers text room x
   reason_holds (best cs r) h =
@@ -88,19 +85,19 @@ module _ (text : List ℕ) (room : Room) (x : Numbers) (o : (read_plan text).out
       let d = test 4 in
       let kept = exact p ok k listed choice (stem p ok k r d) (cycle p ok k r d) (lasso p ok k r d) (hard p ok k r d) (softs p ok k r d) in
       subst (Answers text room) (alike_sound (tour (cost p k) k (ones k)) x (test 0))
-      (answers_tour text room o small (test 1) k (tour_best p ok k listed choice) (stem p ok k r d) (cycle p ok k r d) (lasso p ok k r d) (hard p ok k r d) kept)
+      (answers_tour text room p o small (test 1) k (tour_best p ok k listed choice) (stem p ok k r d) (cycle p ok k r d) (lasso p ok k r d) (hard p ok k r d) kept)
   reason_holds (none cs) h =
       let test = all_nth (reason_tests p room x (none cs)) h in
-      subst (Answers text room) (alike_sound (refusal 6) x (test 0)) (answers_none text room o small (test 1) (tour_none p ok (none_by p cs (test 2))))
+      subst (Answers text room) (alike_sound (refusal 6) x (test 0)) (answers_none text room p o small (test 1) (tour_none p ok (none_by p cs (test 2))))
   reason_holds short h =
       let test = all_nth (reason_tests p room x short) h in
-      subst (Answers text room) (alike_sound (refusal 5) x (test 0)) (answers_short text room o small (test 1))
+      subst (Answers text room) (alike_sound (refusal 5) x (test 0)) (answers_short text room p o small (test 1))
 
 -- ---- a refusal
 
-turned_holds : (text : List ℕ) (n line : ℕ) (o : Outcome) → (read_plan text).outcome ≡ o → turned_as o n line ≡ true → Turned text n line
-turned_holds text n line outcome.Plan e h = absurd (false_not_true h refl)
-turned_holds text n line (outcome.Refused x) e h =
+turned_holds : (text : List ℕ) (n line : ℕ) (r : Result Plan Refusal) → read_plan text ≡ r → turned_as r n line ≡ true → Turned text n line
+turned_holds text n line (Ok p) e h = absurd (false_not_true h refl)
+turned_holds text n line (Err x) e h =
     let number = eqb-true (refused.number x) n (and_left (eqb (refused.number x) n) (eqb (refused.line_of x) line) h) in
     let at = eqb-true (refused.line_of x) line (and_right (eqb (refused.number x) n) (eqb (refused.line_of x) line) h) in
     transport (λ i. Turned text (number i) (at i)) (turned_away text x e)
@@ -178,18 +175,18 @@ unfolding passes Holds
 passes_holds (answers text n room x by) h =
     let test = all_nth (is_read text ∷ eqb (size (plan_of text)) n ∷ leb n 2048 ∷ all_of (reason_tests (plan_of text) room x by) ∷ []) h in
     let e = eqb-true (size (plan_of text)) n (test 1) in
-    (e, reason_holds (bytes text) room x (plan_sound _ (test 0)) (omega (arith, e, leb-true n 2048 (test 2))) by (test 3))
-passes_holds (turned text n line) h = turned_holds (bytes text) n line (read_plan (bytes text)).outcome refl h
+    (e, reason_holds (bytes text) room x (plan_of text) (plan_sound _ (test 0)) (omega (arith, e, leb-true n 2048 (test 2))) by (test 3))
+passes_holds (turned text n line) h = turned_holds (bytes text) n line (read_plan (bytes text)) refl h
 passes_holds (repeats text v) h =
     let test = all_nth (is_read text ∷ eqb (plan_of text).start v ∷ parks (plan_of text) v ∷ []) h in
     let e = eqb-true (plan_of text).start v (test 1) in
-    subst (Repeated (bytes text)) e (repeated (bytes text) (plan_sound _ (test 0)) (rw (← e) at (test 2)))
+    subst (Repeated (bytes text)) e (repeated (bytes text) (plan_of text) (plan_sound _ (test 0)) (rw (← e) at (test 2)))
 passes_holds (dear text rule least k cs r) h =
     let test = all_nth (is_read text ∷ all_of (dear_tests (plan_of text) rule least k cs r) ∷ []) h in
-    dear_holds (plan_of text) (read_well (bytes text) (plan_sound _ (test 0))) rule least k cs r (test 1)
+    dear_holds (plan_of text) (read_well (bytes text) (plan_of text) (plan_sound _ (test 0))) rule least k cs r (test 1)
 passes_holds (tied text rule k k' r) h =
     let test = all_nth (is_read text ∷ all_of (tied_tests (plan_of text) rule k k' r) ∷ []) h in
-    tied_holds (plan_of text) (read_well (bytes text) (plan_sound _ (test 0))) rule k k' r (test 1)
+    tied_holds (plan_of text) (read_well (bytes text) (plan_of text) (plan_sound _ (test 0))) rule k k' r (test 1)
 passes_holds (served stem cycle t part) h = same_sound (upcoming_places stem cycle t) part h
 
 pass : List Figure → Bool

@@ -11,25 +11,25 @@
 --     dear text rule least k  == keeping that rule costs at least `least`; k is the best set that has the rule
 --     tied text rule k k'     == a rule of weight 0 decides between the sets k and k'
 --     served stem cycle t part == the upcoming places at step t
+--   plan_in r                 == the plan that was read; no plan where it was turned away
 --   plan_of text               == the plan that a plan file reads as
 --   Holds f                   == the claim
 --   passes f                  == the test
-use Rattle.std.specs.Prelude.{◌≡◌, Bool, true, false, not, ◌&&◌, List, [], ◌∷◌, ℕ, suc, ◌^◌, length, get_or, eqb, ltb, leb}
+use Rattle.std.specs.Prelude.{◌≡◌, Result, Ok, Err, Bool, true, false, not, ◌&&◌, List, [], ◌∷◌, ℕ, suc, ◌^◌, length, get_or, eqb, ltb, leb}
 use Prim.Native.String.{String}
 use Rattle.std.specs.Int.Count.{ones}
 use Rattle.base.specs.Below.{any_below, all_below}
 use Rattle.base.specs.Bits.{bit}
 use Rattle.automata.specs.Automaton.{final}
-use Rattle.plan.specs.WellFormed.{soft, weight}
+use Rattle.plan.specs.WellFormed.{soft, weight, no_plan}
 use Rattle.plan.specs.Size.{size, roomy}
 use Rattle.plan.specs.Tour.{parks}
 use Rattle.plan.specs.Cost.{keeps, cost}
 use Rattle.plan.specs.Key.{key}
 use Rattle.plan.specs.Refusal as refused
 use Rattle.plan.specs.declared.Plan.{Plan}
+use Rattle.plan.specs.declared.Refusal.{Refusal}
 use Rattle.reader.specs.Reading.{read_plan}
-use Rattle.reader.specs.declared.Outcome.{Outcome}
-use Rattle.reader.specs.declared.Outcome.TheVariants as outcome
 use Rattle.product.specs.Product.{start_node, hard_of, soft_of}
 use Rattle.serve.specs.Upcoming.{upcoming_places}
 use Rattle.figures.specs.Bytes.{bytes}
@@ -54,8 +54,12 @@ pub data Figure : Type 0 where
   tied : (text : String) (rule k k' : ℕ) → Route → Figure
   served : (stem cycle : List ℕ) (t : ℕ) (part : List ℕ) → Figure
 
+abbrev pub plan_in : Result Plan Refusal → Plan
+plan_in (Ok p) = p
+plan_in (Err x) = no_plan
+
 abbrev pub plan_of : String → Plan
-plan_of text = (read_plan (bytes text)).plan
+plan_of text = plan_in (read_plan (bytes text))
 
 unfoldable pub Holds : Figure → Type 0
 Holds (answers text n room x by) = (size (plan_of text) ≡ n) × Answers (bytes text) room x
@@ -67,13 +71,13 @@ Holds (served stem cycle t part) = upcoming_places stem cycle t ≡ part
 
 -- ---- the tests
 
-abbrev pub is_plan : Outcome → Bool
-is_plan (outcome.Refused x) = false
-is_plan outcome.Plan = true
+abbrev pub is_plan : Result Plan Refusal → Bool
+is_plan (Ok p) = true
+is_plan (Err x) = false
 
-abbrev pub turned_as : Outcome → ℕ → ℕ → Bool
-turned_as (outcome.Refused x) n line = eqb (refused.number x) n && eqb (refused.line_of x) line
-turned_as outcome.Plan n line = false
+abbrev pub turned_as : Result Plan Refusal → ℕ → ℕ → Bool
+turned_as (Ok p) n line = false
+turned_as (Err x) n line = eqb (refused.number x) n && eqb (refused.line_of x) line
 
 abbrev pub enough : Room → Plan → Bool
 enough (at_least runin loop) p = roomy p runin loop
@@ -129,11 +133,11 @@ same (x ∷ xs) [] = false
 same (x ∷ xs) (y ∷ ys) = eqb x y && same xs ys
 
 abbrev pub is_read : String → Bool
-is_read text = is_plan (read_plan (bytes text)).outcome
+is_read text = is_plan (read_plan (bytes text))
 
 unfoldable pub passes : Figure → Bool
 passes (answers text n room x by) = all_of (is_read text ∷ eqb (size (plan_of text)) n ∷ leb n 2048 ∷ all_of (reason_tests (plan_of text) room x by) ∷ [])
-passes (turned text n line) = turned_as (read_plan (bytes text)).outcome n line
+passes (turned text n line) = turned_as (read_plan (bytes text)) n line
 passes (repeats text v) = all_of (is_read text ∷ eqb (plan_of text).start v ∷ parks (plan_of text) v ∷ [])
 passes (dear text rule least k cs r) = all_of (is_read text ∷ all_of (dear_tests (plan_of text) rule least k cs r) ∷ [])
 passes (tied text rule k k' r) = all_of (is_read text ∷ all_of (tied_tests (plan_of text) rule k k' r) ∷ [])

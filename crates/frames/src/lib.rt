@@ -1,7 +1,7 @@
 //! Texts on an input, one after the other, each in a frame: its length in six digits, a line's end, and its bytes.
 #![tactic(auto)]
 
-ghost use Rattle.std.specs.Prelude.{◌≡◌, ◌-◌, ◌≤◌, true, length, take};
+ghost use Rattle.std.specs.Prelude.{◌≡◌, ◌-◌, ◌≤◌, length, take, IfSome};
 ghost use Rattle.std.specs.Io.KnownBytes.{Consumes};
 ghost use Rattle.frames.specs.Frame.{length_in, Taken, TakenFrom};
 
@@ -10,20 +10,10 @@ use std::io::Read;
 // A program takes so many frames at most: nothing says that the input ends, so its loop counts them down.
 pub const MOST: u32 = 100000;
 
-// Whether there was a frame that the buffer has room for, and how many of its bytes there were.
-#[derive(Clone, Copy)]
-pub struct Frame {
-    pub found: bool,
-    pub length: usize,
-}
-
 fn digit(b: u8) -> usize
     ensures { (result ≡ b - 48) × (result ≤ 207) }
 {
-    if b < b'0' {
-        return 0;
-    }
-    (b - b'0') as usize
+    usize::from(b.saturating_sub(b'0'))
 }
 
 // The length that the first six bytes say.
@@ -40,6 +30,7 @@ pub fn read_full<R: Read>(input: &mut R, buffer: &mut [u8]) -> usize
     ensures front { result ≤ length buffer.new }
     ensures bytes { Consumes (R.remaining input.old) (R.remaining input.new) (take result buffer.new) }
 {
+    // A read gives as many bytes as there are: the number of turns is not known.
     let mut done = 0;
     while done < buffer.len() {
         match input.read(&mut buffer[done..]) {
@@ -50,30 +41,20 @@ pub fn read_full<R: Read>(input: &mut R, buffer: &mut [u8]) -> usize
     done
 }
 
-// The next frame. Its bytes go to the front of the buffer, as far as the input has them. None is found where the input ends,
-// or where the buffer has no room.
-pub fn next<R: Read>(input: &mut R, buffer: &mut [u8]) -> Frame
+// The next frame: how many bytes it has. They go to the front of the buffer, as far as the input has them. There is none where the
+// input ends, or where the buffer has no room.
+pub fn next<R: Read>(input: &mut R, buffer: &mut [u8]) -> Option<usize>
     ensures taken { Taken result buffer.old buffer.new }
-    ensures bytes { result.found ≡ true → TakenFrom result (R.remaining input.old) (R.remaining input.new) buffer.new }
+    ensures bytes { IfSome result (λ n. TakenFrom n (R.remaining input.old) (R.remaining input.new) buffer.new) }
 {
     let mut head = [0u8; 7];
     let got = read_full(input, &mut head);
     if got < 7 {
-        return Frame {
-            found: false,
-            length: 0,
-        };
+        return None;
     }
     let n = length_in(&head);
     if buffer.len() < n {
-        return Frame {
-            found: false,
-            length: 0,
-        };
+        return None;
     }
-    let length = read_full(input, &mut buffer[..n]);
-    Frame {
-        found: true,
-        length,
-    }
+    Some(read_full(input, &mut buffer[..n]))
 }

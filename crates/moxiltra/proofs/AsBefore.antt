@@ -11,9 +11,10 @@ use mathlib.Core.Path.{◌≡◌, sym, subst}
 use mathlib.Core.List.{List}
 use mathlib.Core.Logic.{◌↔◌}
 use Prim.Native.Nat.{ℕ}
+use Rattle.std.specs.Prelude.{Result, Ok}
+use Rattle.plan.specs.declared.Plan.{Plan}
+use Rattle.plan.specs.declared.Refusal.{Refusal}
 use Rattle.reader.specs.Reading.{read_plan}
-use Rattle.reader.specs.declared.Outcome.TheVariants as outcome
-use Rattle.reader.specs.declared.Reading.{Reading}
 use Rattle.reader.proofs.Singles.{Single}
 use Rattle.reader.proofs.Weights as weights
 use Rattle.reader.proofs.Doubles as doubles
@@ -21,30 +22,29 @@ use Rattle.answer.specs.declared.Answer.{Answer}
 use Rattle.plan.proofs.Parking.{Left}
 use Rattle.promise.specs.Promise.{AnswerTo, ToldOf}
 use Rattle.promise.proofs.Parking.{ToldBefore, told_as_before}
-use Rattle.checker.specs.Check.{CheckOf, RuledOf}
-use Rattle.checker.specs.declared.Check.{Check}
+use Rattle.checker.specs.Check.{Check, CheckOf, RuledOf}
 use Rattle.checker.proofs.Parking.{RuledBefore, ruled_as_before}
 
 -- what is answered to the file is what is answered to the reading r
-abbrev pub Answered : List ℕ → Reading → Type 0
+abbrev pub Answered : List ℕ → Result Plan Refusal → Type 0
 Answered file r = (runin loop runin' loop' : List ℕ) (a : Answer)
-    → AnswerTo file runin loop runin' loop' a ↔ ToldOf r.outcome r.plan runin loop runin' loop' a
+    → AnswerTo file runin loop runin' loop' a ↔ ToldOf r runin loop runin' loop' a
 
-abbrev pub Checked : List ℕ → Reading → Type 0
-Checked file r = (stem cycle : List ℕ) (c : Check) → CheckOf file stem cycle c ↔ RuledOf r.outcome r.plan stem cycle c
+abbrev pub Checked : List ℕ → Result Plan Refusal → Type 0
+Checked file r = (stem cycle : List ℕ) (c : Check) → CheckOf file stem cycle c ↔ RuledOf r stem cycle c
 
 module _ (file : List ℕ) where
-  pub answered_by : (r : Reading) → read_plan file ≡ r → Answered file r
+  pub answered_by : (r : Result Plan Refusal) → read_plan file ≡ r → Answered file r
   answered_by r same runin loop runin' loop' a = (subst T same, subst T (sym same))
     where
-      T : Reading → Type 0
-      T x = ToldOf x.outcome x.plan runin loop runin' loop' a
+      T : Result Plan Refusal → Type 0
+      T x = ToldOf x runin loop runin' loop' a
 
-  pub checked_by : (r : Reading) → read_plan file ≡ r → Checked file r
+  pub checked_by : (r : Result Plan Refusal) → read_plan file ≡ r → Checked file r
   checked_by r same stem cycle c = (subst T same, subst T (sym same))
     where
-      T : Reading → Type 0
-      T x = RuledOf x.outcome x.plan stem cycle c
+      T : Result Plan Refusal → Type 0
+      T x = RuledOf x stem cycle c
 
   module _ (no_zero : weights.NoZero file) where
     pub answered_as_before : Answered file (weights.read_before file)
@@ -53,28 +53,28 @@ module _ (file : List ℕ) where
     pub checked_as_before : Checked file (weights.read_before file)
     checked_as_before = checked_by _ (weights.read_as_before file no_zero)
 
-  abbrev before : Reading
+  abbrev before : Result Plan Refusal
   before = doubles.read_before file
 
-  module _ (passed : before.outcome ≡ outcome.Plan) (single : Single before.plan.from before.plan.to before.plan.roads) where
+  module _ (p : Plan) (passed : before ≡ Ok p) (single : Single p.roads p.road_count) where
     pub single_answered : Answered file before
-    single_answered = answered_by _ (doubles.single_as_before file passed single)
+    single_answered = answered_by _ (doubles.single_as_before file p passed single)
 
     pub single_checked : Checked file before
-    single_checked = checked_by _ (doubles.single_as_before file passed single)
+    single_checked = checked_by _ (doubles.single_as_before file p passed single)
 
   -- of such a file the definitions of before and of now say the same
-  module _ (left : Left (read_plan file).plan) where
+  module _ (left : (p : Plan) → read_plan file ≡ Ok p → Left p) where
     pub left_answered : (runin loop runin' loop' : List ℕ) (a : Answer)
-        → AnswerTo file runin loop runin' loop' a ↔ ToldBefore (read_plan file).outcome (read_plan file).plan runin loop runin' loop' a
-    left_answered runin loop runin' loop' a = told_as_before (read_plan file).plan left runin loop runin' loop' a (read_plan file).outcome
+        → AnswerTo file runin loop runin' loop' a ↔ ToldBefore (read_plan file) runin loop runin' loop' a
+    left_answered = told_as_before (read_plan file) left
 
-    pub left_checked : (stem cycle : List ℕ) (c : Check) → CheckOf file stem cycle c ↔ RuledBefore (read_plan file).outcome (read_plan file).plan stem cycle c
-    left_checked stem cycle c = ruled_as_before (read_plan file).plan left stem cycle (read_plan file).outcome c
+    pub left_checked : (stem cycle : List ℕ) (c : Check) → CheckOf file stem cycle c ↔ RuledBefore (read_plan file) stem cycle c
+    left_checked = ruled_as_before (read_plan file) left
 
-  module _ (passes : (read_plan file).outcome ≡ outcome.Plan) where
+  module _ (p : Plan) (passes : read_plan file ≡ Ok p) where
     pub passed_answered : Answered file before
-    passed_answered = answered_by _ (doubles.passed_as_before file passes)
+    passed_answered = answered_by _ (doubles.passed_as_before file p passes)
 
     pub passed_checked : Checked file before
-    passed_checked = checked_by _ (doubles.passed_as_before file passes)
+    passed_checked = checked_by _ (doubles.passed_as_before file p passes)

@@ -12,21 +12,21 @@ use Prim.Native.Nat.{ℕ, ◌≤◌, ◌<◌}
 use borrow.Author.Tests.{lt-ltb, le-ltb}
 use lib.ListN.{length, take, drop}
 use lib.Seq.{take_at}
+use Rattle.std.specs.Prelude.{Result}
 use Rattle.plan.specs.Refusal.{number}
+use Rattle.plan.specs.Returned.{number_of}
+use Rattle.plan.specs.declared.Refusal.{Refusal}
 use Rattle.plan.specs.declared.Refusal.TheVariants as refusal
 use Rattle.answer.specs.Block.{block_of, answer_of}
 use Rattle.answer.specs.declared.Answer.{Answer}
 use Rattle.answer.proofs.Blocks.{length_block, answer_block}
 use Rattle.readback.specs.Reading.{runin_of, loop_of, written}
-use Rattle.readback.specs.Reply as told
 use Rattle.readback.specs.Block as reply
 use Rattle.readback.specs.Block.{said, said_by}
-use Rattle.readback.specs.declared.Reply.{Reply}
+use Rattle.readback.specs.declared.Record.{Record}
 use Rattle.readback.proofs.Blocks.{block_says, reply_narrow, length_block as length-reply}
-use Rattle.checker.specs.Check as checked
-use Rattle.checker.specs.Check.{CheckOf}
+use Rattle.checker.specs.Check.{Check, CheckOf}
 use Rattle.checker.specs.Block as check_block
-use Rattle.checker.specs.declared.Check.{Check}
 use Rattle.promise.specs.Promise.{AnswerTo}
 use Rattle.promise.proofs.Bounds.{told_narrow}
 use Rattle.moxiltra.specs.Entries.{Buffers, buffers, ByBlock, Answered, Promise, reply_to, Replied, Reading, Checked, Checking}
@@ -55,9 +55,9 @@ pub reply_short : (text : List ℕ) (b : Buffers) → length b.block < 32 → (r
 unfolding Reading
 reply_short text b h r e = short 32 b b r _ h e refl
 
-pub reply_told : (text block runin loop block' runin' loop' : List ℕ) (q : Reply) (r : ℕ) → 32 ≤ length block
+pub reply_told : (text block runin loop block' runin' loop' : List ℕ) (q : Result Record Refusal) (r : ℕ) → 32 ≤ length block
     → q ≡ reply_to text (buffers block runin loop) → runin' ≡ written q (runin_of text) runin → loop' ≡ written q (loop_of text) loop
-    → block' ≡ reply.block_of q ++ drop 32 block → r ≡ told.number q
+    → block' ≡ reply.block_of q ++ drop 32 block → r ≡ number_of q
     → Reading text (buffers block runin loop) (buffers block' runin' loop') r
 unfolding Reading
 reply_told text block runin loop block' runin' loop' q r h e f g w n =
@@ -68,7 +68,7 @@ unfolding Checking
 check_short plan runin loop block h r e = short 24 (buffers block runin loop) (buffers block runin loop) r _ h e refl
 
 pub check_told : (plan runin loop block block' : List ℕ) (c : Check) (r : ℕ) → 24 ≤ length block → CheckOf plan runin loop c
-    → block' ≡ check_block.block_of c ++ drop 24 block → r ≡ checked.number c → Checking plan runin loop block block' r
+    → block' ≡ check_block.block_of c ++ drop 24 block → r ≡ number_of c → Checking plan runin loop block block' r
 unfolding Checking
 check_told plan runin loop block block' c r h t w n =
     long 24 (buffers block runin loop) (buffers block' runin loop) r _ h (record { check = c; told = t; returned = n; filled = w })

@@ -8,6 +8,8 @@ use Prim.Native.Nat.{ℕ, ◌≤◌}
 use native.Mathlib.Omega.{arith}
 use lib.ListN.{length, take, drop}
 use lib.Seq.{take-append_seam}
+use Rattle.std.specs.Prelude.{Result, Ok, Err}
+use Rattle.plan.specs.Returned.{number_of}
 use Rattle.plan.specs.Size.{too_large, roomy}
 use Rattle.plan.specs.Tour.{IsLasso, Hard}
 use Rattle.plan.specs.Cost.{KeptIs}
@@ -17,24 +19,19 @@ use Rattle.plan.specs.declared.Refusal.TheVariants as refusal
 use Rattle.plan.proofs.Numbers.{number_some}
 use Rattle.plan.specs.declared.Plan.{Plan}
 use Rattle.reader.specs.Reading.{read_plan}
-use Rattle.reader.proofs.WellRead.{read_ok}
-use Rattle.reader.specs.declared.Outcome.{Outcome}
-use Rattle.reader.specs.declared.Outcome.TheVariants as outcome
+use Rattle.reader.proofs.WellRead.{read_well}
 use Rattle.answer.specs.declared.Answer.{Answer}
 use Rattle.answer.specs.Block.{answer_of}
 use Rattle.promise.specs.Promise.{AnswerTo, ToldOf, Told, verdict, refusal_answer, TourOf, Planned, none, tour}
-use Rattle.checker.specs.Check as checked
-use Rattle.checker.specs.Check.{CheckOf, RuledOf}
+use Rattle.checker.specs.Check.{Check, CheckOf, RuledOf}
 use Rattle.checker.specs.Block as check_block
-use Rattle.checker.specs.declared.Check.{Check}
-use Rattle.checker.specs.declared.Check.TheVariants.{Tour}
 use Rattle.checker.proofs.Answering.{own_worth}
 use Rattle.moxiltra.specs.Entries.{Buffers, Promise, Checking}
 use Rattle.moxiltra.proofs.Blocks.{answered, block_exact, check_is}
 
 -- what an answer says that a tour is worth
 abbrev pub worth_in : Answer → Check
-worth_in a = Tour (record { accepts = true; kept = a.kept; cost = a.cost })
+worth_in a = Ok (record { accepts = true; kept = a.kept; cost = a.cost })
 
 module _ (runin loop runin' loop' : List ℕ) (a : Answer) (zero_number : a.number ≡ 0) (c : Check) where
   abbrev stem : List ℕ
@@ -46,7 +43,7 @@ module _ (runin loop runin' loop' : List ℕ) (a : Answer) (zero_number : a.numb
   refused : (x : Refusal) → a ≡ refusal_answer x → c ≡ worth_in a
   refused x e = absurd (let z : ⊥ = omega (arith, number_some x, ap (λ (a : Answer). a.number) e, zero_number) in z)
 
-  module _ (p : Plan) (ok : WellFormed p) (small : too_large p ≡ false) (checked : RuledOf outcome.Plan p stem cycle c) where
+  module _ (p : Plan) (ok : WellFormed p) (small : too_large p ≡ false) (checked : RuledOf (Ok p) stem cycle c) where
     toured : TourOf p runin loop runin' loop' a → c ≡ worth_in a
     toured t =
         own_worth p stem cycle t.kept c ok small
@@ -65,7 +62,7 @@ module _ (runin loop runin' loop' : List ℕ) (a : Answer) (zero_number : a.numb
     planned (none n e f g) = refused refusal.NoTour e
     planned (tour t) = toured t
 
-  read : (p : Plan) → WellFormed p → ToldOf outcome.Plan p runin loop runin' loop' a → RuledOf outcome.Plan p stem cycle c → c ≡ worth_in a
+  read : (p : Plan) → WellFormed p → ToldOf (Ok p) runin loop runin' loop' a → RuledOf (Ok p) stem cycle c → c ≡ worth_in a
   unfolding verdict Told
   read p ok t checked = by (too_large p) refl (roomy p (length runin) (length loop)) refl
     where
@@ -77,15 +74,13 @@ module _ (runin loop runin' loop' : List ℕ) (a : Answer) (zero_number : a.numb
 pub own_tour : (file runin loop runin' loop' : List ℕ) (a : Answer) → AnswerTo file runin loop runin' loop' a → a.number ≡ 0
     → (c : Check) → CheckOf file (take a.stem runin') (take a.cycle loop') c → c ≡ worth_in a
 unfolding verdict Told
-own_tour file runin loop runin' loop' a t z c k = by (read_plan file).outcome refl
+own_tour file runin loop runin' loop' a t z c k = by (read_plan file) refl
   where
-    by : (o : Outcome) → (read_plan file).outcome ≡ o → c ≡ worth_in a
-    by outcome.Plan e =
-        read runin loop runin' loop' a z c (read_plan file).plan (read_ok file (read_plan file) refl e)
-        (subst (λ o. ToldOf o (read_plan file).plan runin loop runin' loop' a) e t)
-        (subst (λ o. RuledOf o (read_plan file).plan (take a.stem runin') (take a.cycle loop') c) e k)
-    by (outcome.Refused x) e =
-        refused runin loop runin' loop' a z c x (subst (λ o. ToldOf o (read_plan file).plan runin loop runin' loop' a) e t).answer
+    by : (r : Result Plan Refusal) → read_plan file ≡ r → c ≡ worth_in a
+    by (Ok p) e =
+        read runin loop runin' loop' a z c p (read_well file p e) (subst (λ r. ToldOf r runin loop runin' loop' a) e t)
+        (subst (λ r. RuledOf r (take a.stem runin') (take a.cycle loop') c) e k)
+    by (Err x) e = refused runin loop runin' loop' a z c x (subst (λ r. ToldOf r runin loop runin' loop' a) e t).answer
 
 -- the places that the block of `plan_tour` tells, put to `check_tour` with a block that is long enough
 pub own_checked : (plan : List ℕ) (b b' : Buffers) → 16 ≤ length b.block → Promise plan b b' 0
@@ -100,4 +95,4 @@ own_checked plan b b' h P block block' r l k =
     own_tour plan b.runin b.loop b'.runin b'.loop (answer_of (take 16 b'.block))
     (subst (λ (y : Answer). AnswerTo plan b.runin b.loop b'.runin b'.loop y) (sym e) a.told)
     (ap (λ (y : Answer). y.number) e ∙ sym a.returned) x.check x.told in
-    (x.returned ∙ ap checked.number same, x.filled ∙ ap (λ c. check_block.block_of c ++ drop 24 block) same)
+    (x.returned ∙ ap number_of same, x.filled ∙ ap (λ c. check_block.block_of c ++ drop 24 block) same)

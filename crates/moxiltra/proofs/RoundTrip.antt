@@ -6,17 +6,17 @@ use mathlib.Core.List.{List}
 use Prim.Native.Nat.{ℕ, ◌≤◌}
 use native.Mathlib.Omega.{arith}
 use lib.ListN.{take}
+use Rattle.std.specs.Prelude.{Ok}
 use Rattle.answer.specs.Text.{text_of}
 use Rattle.answer.specs.declared.Answer.{Answer}
 use Rattle.promise.specs.Promise.{AnswerTo}
 use Rattle.promise.proofs.Sounds.{told_sound}
 use Rattle.readback.specs.Reading.{read_answer, runin_of, loop_of}
-use Rattle.readback.specs.declared.Reply.TheVariants.{Read}
 use Rattle.readback.proofs.ReadsBack.{sound_read, sound_runin, sound_loop}
 
 pub record CameBack (a : Answer) (stem cycle text : List ℕ) (r l : ℕ) : Type 0 where
   pub record_read : read_answer text r l
-      ≡ Read (record { number = a.number; line = a.line; cost = a.cost; kept = a.kept; stem = a.stem; cycle = a.cycle })
+      ≡ Ok (record { number = a.number; line = a.line; cost = a.cost; kept = a.kept; stem = a.stem; cycle = a.cycle })
   pub runin_read : runin_of text ≡ stem
   pub loop_read : loop_of text ≡ cycle
 

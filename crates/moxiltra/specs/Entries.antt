@@ -12,20 +12,19 @@
 --   Reading text b b' r  == what `read_answer` returns and leaves: one of the two, by the length of the block
 --   Checked plan runin loop block block' r == the check of a proposed tour stands in the first twenty-four bytes of the block
 --   Checking plan runin loop block block' r == what `check_tour` returns and leaves in the block, by its length; run-in and loop are only read
-use Rattle.std.specs.Prelude.{◌≡◌, Bool, true, false, List, ◌++◌, ℕ, ltb, length, drop}
+use Rattle.std.specs.Prelude.{◌≡◌, Result, Bool, true, false, List, ◌++◌, ℕ, ltb, length, drop}
 use Rattle.plan.specs.Refusal.{number}
+use Rattle.plan.specs.Returned.{number_of}
+use Rattle.plan.specs.declared.Refusal.{Refusal}
 use Rattle.plan.specs.declared.Refusal.TheVariants as refusal
 use Rattle.answer.specs.Block.{block_of}
 use Rattle.answer.specs.declared.Answer.{Answer}
 use Rattle.promise.specs.Promise.{AnswerTo}
-use Rattle.checker.specs.Check as checked
-use Rattle.checker.specs.Check.{CheckOf}
+use Rattle.checker.specs.Check.{Check, CheckOf}
 use Rattle.checker.specs.Block as check_block
-use Rattle.checker.specs.declared.Check.{Check}
 use Rattle.readback.specs.Reading.{read_answer, runin_of, loop_of, written}
-use Rattle.readback.specs.Reply as reply
 use Rattle.readback.specs.Block as block
-use Rattle.readback.specs.declared.Reply.{Reply}
+use Rattle.readback.specs.declared.Record.{Record}
 
 pub record Buffers : Type 0 where
   pub block : List ℕ
@@ -55,11 +54,11 @@ ByBlock n b b' r P = either (ltb (length b.block) n) (TooShort b b' r) P
 unfoldable pub Promise : List ℕ → Buffers → Buffers → ℕ → Type 0
 Promise plan b b' r = ByBlock 16 b b' r (Answered plan b b' r)
 
-abbrev pub reply_to : List ℕ → Buffers → Reply
+abbrev pub reply_to : List ℕ → Buffers → Result Record Refusal
 reply_to text b = read_answer text (length b.runin) (length b.loop)
 
 pub record Replied (text : List ℕ) (b b' : Buffers) (r : ℕ) : Type 0 where
-  pub returned : r ≡ reply.number (reply_to text b)
+  pub returned : r ≡ number_of (reply_to text b)
   pub block : b'.block ≡ block.block_of (reply_to text b) ++ drop 32 b.block
   pub runin : b'.runin ≡ written (reply_to text b) (runin_of text) b.runin
   pub loop : b'.loop ≡ written (reply_to text b) (loop_of text) b.loop
@@ -70,7 +69,7 @@ Reading text b b' r = ByBlock 32 b b' r (Replied text b b' r)
 pub record Checked (plan runin loop block block' : List ℕ) (r : ℕ) : Type 0 where
   pub check : Check
   pub told : CheckOf plan runin loop check
-  pub returned : r ≡ checked.number check
+  pub returned : r ≡ number_of check
   pub filled : block' ≡ check_block.block_of check ++ drop 24 block
 
 unfoldable pub Checking : List ℕ → List ℕ → List ℕ → List ℕ → List ℕ → ℕ → Type 0

@@ -8,10 +8,9 @@ use mathlib.Core.Bool.{Bool, true, false, not, ◌&&◌, and-true, and-false, or
 use Prim.Native.Nat.{ℕ, ◌≤◌, ◌<◌}
 use native.Mathlib.Omega.{arith}
 use borrow.Author.Tests.{ltb-true, eqb-true, not-true}
-use lib.ListN.{get_or}
 use lib.Dec.{eqb, ltb}
 use Rattle.base.proofs.Tests.{any_elim, any_intro, and_left, and_right, or_elim, false_not_true}
-use Rattle.plan.specs.WellFormed.{WellFormed}
+use Rattle.plan.specs.WellFormed.{road, WellFormed}
 use Rattle.plan.specs.Tour.{road_count, is_road, has_road, leaves, parks, joins}
 use Rattle.plan.specs.declared.Plan.{Plan}
 
@@ -20,7 +19,7 @@ module _ (p : Plan) (u v : ℕ) where
   road_leaves : has_road p u v ≡ true → leaves p u ≡ true
   road_leaves h =
       let r = any_elim (is_road p u v) (road_count p) h in
-      any_intro (λ i. eqb (get_or p.from i 0) u) (road_count p) r.0 r.1 (and_left _ (eqb (get_or p.to r.0 0) v) r.2)
+      any_intro (λ i. eqb (road p i).from u) (road_count p) r.0 r.1 (and_left _ (eqb (road p r.0).to v) r.2)
 
   pub left_joins : leaves p u ≡ true → joins p u v ≡ has_road p u v
   unfolding joins
@@ -37,24 +36,24 @@ module _ (p : Plan) (u v : ℕ) where
   module _ (ok : WellFormed p) where
     pub joins_from : joins p u v ≡ true → u < p.places
     unfolding joins
-    joins_from h = or_elim (has_road p u v) (eqb u v && parks p u) h road parked
+    joins_from h = or_elim (has_road p u v) (eqb u v && parks p u) h by_road parked
       where
-        road : has_road p u v ≡ true → u < p.places
-        road e =
+        by_road : has_road p u v ≡ true → u < p.places
+        by_road e =
             let r = any_elim (is_road p u v) (road_count p) e in
-            omega (arith, ok.from r.0, eqb-true (get_or p.from r.0 0) u (and_left _ _ r.2))
+            omega (arith, ok.from r.0, eqb-true (road p r.0).from u (and_left _ _ r.2))
 
         parked : (eqb u v && parks p u) ≡ true → u < p.places
         parked e = ltb-true u p.places (and_left _ _ (and_right (eqb u v) (parks p u) e))
 
     pub joins_to : joins p u v ≡ true → v < p.places
     unfolding joins
-    joins_to h = or_elim (has_road p u v) (eqb u v && parks p u) h road parked
+    joins_to h = or_elim (has_road p u v) (eqb u v && parks p u) h by_road parked
       where
-        road : has_road p u v ≡ true → v < p.places
-        road e =
+        by_road : has_road p u v ≡ true → v < p.places
+        by_road e =
             let r = any_elim (is_road p u v) (road_count p) e in
-            omega (arith, ok.to r.0, eqb-true (get_or p.to r.0 0) v (and_right (eqb (get_or p.from r.0 0) u) _ r.2))
+            omega (arith, ok.to r.0, eqb-true (road p r.0).to v (and_right (eqb (road p r.0).from u) _ r.2))
 
         parked : (eqb u v && parks p u) ≡ true → v < p.places
         parked e =

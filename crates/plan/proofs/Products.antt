@@ -1,18 +1,20 @@
 -- A product held at a bound M after every factor is the exact product held at M: once at M, the product stays at M or falls to 0
 -- with a factor 0, as the exact one does.
-use mathlib.Core.Path.{◌≡◌, refl, sym, ◌∙◌}
-use mathlib.Core.Bool.{Bool, true, false}
+use mathlib.Core.Path.{◌≡◌, refl, ◌∙◌}
+use mathlib.Core.Bool.{Bool, true, false, cond}
 use mathlib.Core.List.{List, [], ◌∷◌}
 use Prim.Native.Nat.{ℕ, zero, suc, ◌+◌, ◌*◌, ◌≤◌, ◌<◌, min}
 use native.Mathlib.Omega.{arith}
 use native.Mathlib.Numerals.{add-one}
-use native.Mathlib.Nat.{mul_assoc, mul-le-mul_left, mul-le-mul_right}
+use native.Mathlib.Nat.{mul_assoc}
 use lib.ListN.{get_or}
 use lib.Dec.{ltb}
-use borrow.Author.Tests.{ltb-true, ltb-false, lt-ltb, le-ltb}
+use borrow.Author.Tests.{ltb-true, ltb-false}
+use Rattle.std.proofs.lemmas.Option.{same_Some}
+use Rattle.std.specs.Prelude.{None, Some}
 use Rattle.base.specs.Below.{product_below}
 use Rattle.automata.specs.declared.Automaton.{Automaton}
-use Rattle.plan.specs.Size.{size, Sized}
+use Rattle.plan.specs.Size.{size, too_large, Sized}
 use Rattle.plan.specs.WellFormed.{soft}
 use Rattle.plan.specs.declared.Plan.{Plan}
 
@@ -47,22 +49,26 @@ module _ (M : ℕ) where
       let k : n₀ ≡ min (p.places * p.hard.states) M = h₀ ∙ rw (ha, e) (held_mul p.places p.hard.states) in
       h ∙ rw k (held_mul (p.places * p.hard.states) (product_below p.rules (λ i. (soft p i).states + 1)))
 
-pub held_sized : (p : Plan) (n : ℕ) → n ≡ min (size p) 2049 → Sized p (ltb 2048 n) n
-held_sized p n e = by (ltb 2048 n) refl
+pub sized_large : (p : Plan) → Sized p None → too_large p ≡ true
+sized_large p s = by (too_large p) s
   where
-    by : (b : Bool) → ltb 2048 n ≡ b → Sized p b n
-    by true h = record { judged = sym (lt-ltb 2048 (size p) (omega (arith, ltb-true 2048 n h))); nodes = λ small. omega arith }
-    by false h = record { judged = sym (le-ltb 2048 (size p) (omega (arith, ltb-false 2048 n h))); nodes = λ small. omega arith }
+    by : (b : Bool) → None ≡ cond b None (Some (size p)) → b ≡ true
+    by true e = refl
+    by false e = cc
 
-module _ {p : Plan} {large : Bool} {n : ℕ} (S : Sized p large n) (fits : large ≡ false) where
+module _ (p : Plan) (n : ℕ) (s : Sized p (Some n)) where
+  by : (b : Bool) → Some n ≡ cond b None (Some (size p)) → (b ≡ false) × (n ≡ size p)
+  by true e = cc
+  by false e = (refl, same_Some n (size p) e)
+
+  pub sized_fits : too_large p ≡ false
+  sized_fits = (by (too_large p) s).0
+
   pub sized_small : size p ≤ 2048
-  sized_small = ltb-false 2048 (size p) (sym S.judged ∙ fits)
+  sized_small = ltb-false 2048 (size p) sized_fits
 
   pub sized_nodes : n ≡ size p
-  sized_nodes = S.nodes sized_small
-
-pub product_fits : (n factor : ℕ) → n ≤ 2049 → factor ≤ 4294967296 → n * factor < 18446744073709551616
-product_fits n factor h k = omega (arith, mul-le-mul_left n k, mul-le-mul_right 4294967296 h)
+  sized_nodes = (by (too_large p) s).1
 
 -- past the end of a list it does not matter which automaton without states is read
 pub states_default : (l : List Automaton) (i : ℕ) (d e : Automaton) → d.states ≡ e.states → (get_or l i d).states ≡ (get_or l i e).states

@@ -20,7 +20,7 @@ use Rattle.automata.specs.Acceptance.{lasso_at, HardAccepts, SoftAccepts}
 use Rattle.automata.specs.declared.Automaton.{Automaton}
 use Rattle.automata.proofs.Repeats as automata
 use Rattle.automata.proofs.Repeats.{SameMoves, RepeatedMove}
-use Rattle.plan.specs.WellFormed.{soft}
+use Rattle.plan.specs.WellFormed.{soft, no_road}
 use Rattle.plan.specs.Size.{size}
 use Rattle.plan.specs.Tour.{joins, IsLasso, word, Hard, Soft}
 use Rattle.plan.specs.Cost.{KeptIs, cost_of, cost, First, Better, Best}
@@ -30,9 +30,8 @@ pub record Frame (p q : Plan) : Type 0 where
   pub places : p.places ≡ q.places
   pub labels : p.labels ≡ q.labels
   pub start : p.start ≡ q.start
+  pub road_count : p.road_count ≡ q.road_count
   pub roads : p.roads ≡ q.roads
-  pub from : p.from ≡ q.from
-  pub to : p.to ≡ q.to
   pub rules : p.rules ≡ q.rules
   pub weights : p.weights ≡ q.weights
 
@@ -60,8 +59,8 @@ module _ (p q : Plan) (a : Alike p q) where
   unfolding joins
   same_joins u v =
       let f = a.frame in
-      λ i. any_below (min (f.roads i) 1024) (λ k. eqb (get_or (f.from i) k 0) u && eqb (get_or (f.to i) k 0) v)
-      || (eqb u v && (ltb u (f.places i) && not (any_below (min (f.roads i) 1024) (λ k. eqb (get_or (f.from i) k 0) u))))
+      λ i. any_below (min (f.road_count i) 1024) (λ k. eqb (get_or (f.roads i) k no_road).from u && eqb (get_or (f.roads i) k no_road).to v)
+      || (eqb u v && (ltb u (f.places i) && not (any_below (min (f.road_count i) 1024) (λ k. eqb (get_or (f.roads i) k no_road).from u))))
 
   same_costs : (k : ℕ) → cost p k ≡ cost q k
   same_costs k = λ i. cost_of (a.frame.weights i) (a.frame.rules i) k
@@ -100,9 +99,8 @@ alike_sym a = record {
     places = sym f.places;
     labels = sym f.labels;
     start = sym f.start;
+    road_count = sym f.road_count;
     roads = sym f.roads;
-    from = sym f.from;
-    to = sym f.to;
     rules = sym f.rules;
     weights = sym f.weights;
   };

@@ -1,4 +1,5 @@
 pub mod Refusal
+pub mod Returned
 pub mod Answers
 pub mod WellFormed
 pub mod Size

@@ -1,10 +1,10 @@
 -- The number N of 01: how many tuples of a place, a state of the hard rule and a state, or the trap, of each soft rule.
 --   size p           == N
 --   too_large p       == N is above 2,048, the most that is planned in
---   Sized p large n  == large tells whether it is, and n is N if not
+--   Sized p r        == r is N, or nothing where N is too large
 --   loop_room p       == how many bytes of loop the planner asks for
 --   roomy p r l      == a run-in buffer of r bytes and a loop buffer of l are long enough
-use Rattle.std.specs.Prelude.{◌≡◌, Bool, ◌&&◌, ℕ, ◌+◌, ◌*◌, ◌≤◌, leb, ltb}
+use Rattle.std.specs.Prelude.{◌≡◌, Bool, cond, ◌&&◌, Option, None, Some, ℕ, ◌+◌, ◌*◌, leb, ltb}
 use Rattle.base.specs.Below.{product_below}
 use Rattle.plan.specs.WellFormed.{soft}
 use Rattle.plan.specs.declared.Plan.{Plan}
@@ -15,9 +15,8 @@ size p = p.places * p.hard.states * product_below p.rules (λ i. (soft p i).stat
 abbrev pub too_large : Plan → Bool
 too_large p = ltb 2048 (size p)
 
-pub record Sized (p : Plan) (large : Bool) (n : ℕ) : Type 0 where
-  pub judged : large ≡ too_large p
-  pub nodes : size p ≤ 2048 → n ≡ size p
+abbrev pub Sized : Plan → Option ℕ → Type 0
+Sized p r = r ≡ cond (too_large p) None (Some (size p))
 
 abbrev pub loop_room : Plan → ℕ
 loop_room p = (p.rules + 2) * size p

@@ -12,24 +12,24 @@
 use Rattle.std.specs.Prelude.{◌≡◌, Bool, true, not, ◌&&◌, ◌||◌, List, ℕ, suc, ◌+◌, ◌<◌, min, length, get_or, eqb, ltb}
 use Rattle.base.specs.Below.{any_below}
 use Rattle.automata.specs.Acceptance.{lasso_at, HardAccepts, SoftAccepts}
-use Rattle.plan.specs.WellFormed.{soft}
+use Rattle.plan.specs.WellFormed.{soft, road}
 use Rattle.plan.specs.declared.Plan.{Plan}
 
 abbrev pub label : Plan → ℕ → ℕ
 label p v = get_or p.labels v 0
 
--- the arrays have room for 1,024
+-- the array has room for 1,024
 abbrev pub road_count : Plan → ℕ
-road_count p = min p.roads 1024
+road_count p = min p.road_count 1024
 
 abbrev pub is_road : Plan → ℕ → ℕ → ℕ → Bool
-is_road p u v i = eqb (get_or p.from i 0) u && eqb (get_or p.to i 0) v
+is_road p u v i = eqb (road p i).from u && eqb (road p i).to v
 
 abbrev pub has_road : Plan → ℕ → ℕ → Bool
 has_road p u v = any_below (road_count p) (is_road p u v)
 
 abbrev pub leaves : Plan → ℕ → Bool
-leaves p u = any_below (road_count p) (λ i. eqb (get_or p.from i 0) u)
+leaves p u = any_below (road_count p) (λ i. eqb (road p i).from u)
 
 abbrev pub parks : Plan → ℕ → Bool
 parks p u = ltb u p.places && not (leaves p u)

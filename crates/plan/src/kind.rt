@@ -3,7 +3,7 @@ ghost use Rattle.std.specs.Prelude.{◌≡◌};
 ghost use Rattle.plan.specs.Answers.{kind_of};
 
 // A tour; a refusal without a line, or one that carries the line of the plan; no answer of plantour's.
-#[derive(Clone, Copy)]
+#[derive(Clone, Copy, Debug, PartialEq, Eq)]
 pub enum Kind {
     Tour,
     Plain,
@@ -12,23 +12,14 @@ pub enum Kind {
 }
 
 // What an answer of this number is.
+#[tactic(auto, unfolding(crate::specs::Answers::kind_of))]
 pub fn kind_of(number: u32) -> Kind
     ensures { result ≡ kind_of number }
 {
-    if number == 0 {
-        return Kind::Tour;
+    match number {
+        0 => Kind::Tour,
+        2 | 3 | 10 => Kind::Lined,
+        n if n < 7 => Kind::Plain,
+        _ => Kind::Never,
     }
-    if number == 2 {
-        return Kind::Lined;
-    }
-    if number == 3 {
-        return Kind::Lined;
-    }
-    if number == 10 {
-        return Kind::Lined;
-    }
-    if number < 7 {
-        return Kind::Plain;
-    }
-    Kind::Never
 }

@@ -10,18 +10,17 @@ use native.Mathlib.Omega.{arith}
 use lib.ListN.{length}
 use borrow.Author.Tests.{ltb-false}
 use lib.Pow.{pow_mono}
+use Rattle.std.specs.Prelude.{Result, Ok, Err}
 use Rattle.plan.specs.WellFormed.{WellFormed}
 use Rattle.plan.specs.Size.{size, too_large, roomy}
 use Rattle.plan.specs.Cost.{Counted, none as no_more, one, skip}
 use Rattle.plan.specs.Refusal as refused
+use Rattle.plan.specs.Returned.{number_of, line_of}
 use Rattle.plan.specs.declared.Plan.{Plan}
 use Rattle.plan.specs.declared.Refusal.{Refusal}
 use Rattle.plan.specs.declared.Refusal.TheVariants as refusal
 use Rattle.plan.proofs.Rooms.{loop_small, roomy_enough}
-use Rattle.reader.specs.Outcome.{number, line_of}
 use Rattle.reader.specs.Reading.{read_plan}
-use Rattle.reader.specs.declared.Outcome.{Outcome}
-use Rattle.reader.specs.declared.Outcome.TheVariants as outcome
 use Rattle.reader.proofs.Answers.{Early, read_early}
 use Rattle.reader.proofs.WellRead.{read_well}
 use Rattle.answer.specs.Block.{Narrow}
@@ -59,35 +58,35 @@ module _ (p : Plan) {runin loop runin' loop' : List ℕ} {a : Answer} where
 
 -- a plan file that was turned away, and one that was read, in the verdict's terms
 module _ (runin loop runin' loop' : List ℕ) (a : Answer) where
-  verdict_narrow : (o : Outcome) (p : Plan) → Early (number o) → line_of o ≤ 60001 → (o ≡ outcome.Plan → WellFormed p)
-      → ToldOf o p runin loop runin' loop' a → Narrow a
+  verdict_narrow : (r : Result Plan Refusal) → Early (number_of r) → line_of r ≤ 60001 → ((p : Plan) → r ≡ Ok p → WellFormed p)
+      → ToldOf r runin loop runin' loop' a → Narrow a
   unfolding verdict Told
-  verdict_narrow (outcome.Refused x) p among line ok t = refusal_narrow x a t.answer among.low line
-  verdict_narrow outcome.Plan p among line ok t = by (too_large p) (roomy p (length runin) (length loop)) refl t
+  verdict_narrow (Err x) among line ok t = refusal_narrow x a t.answer among.low line
+  verdict_narrow (Ok p) among line ok t = by (too_large p) (roomy p (length runin) (length loop)) refl t
     where
       by : (large room : Bool) → too_large p ≡ large
           → Told (cond large (refuse refusal.ProductTooLarge) (cond room (go p) (refuse refusal.BufferTooShort))) runin loop runin' loop' a → Narrow a
       by true room e t = refusal_narrow refusal.ProductTooLarge a t.answer (omega arith) (omega arith)
-      by false true e t = planned_narrow p (ok refl) (ltb-false 2048 (size p) e) t
+      by false true e t = planned_narrow p (ok p refl) (ltb-false 2048 (size p) e) t
       by false false e t = refusal_narrow refusal.BufferTooShort a t.answer (omega arith) (omega arith)
 
-  verdict_number : (o : Outcome) (p : Plan) → Early (number o) → (o ≡ outcome.Plan → size p ≤ 2048 → roomy p (length runin) (length loop) ≡ true)
-      → ToldOf o p runin loop runin' loop' a → a.number ≢ 5
+  verdict_number : (r : Result Plan Refusal) → Early (number_of r)
+      → ((p : Plan) → r ≡ Ok p → size p ≤ 2048 → roomy p (length runin) (length loop) ≡ true) → ToldOf r runin loop runin' loop' a → a.number ≢ 5
   unfolding verdict Told
-  verdict_number (outcome.Refused x) p among room t f = among.none 5 (omega arith) (omega arith) (omega (arith, ap (λ y. y.number) t.answer))
-  verdict_number outcome.Plan p among room t f = by (too_large p) refl t
+  verdict_number (Err x) among room t f = among.none 5 (omega arith) (omega arith) (omega (arith, ap (λ y. y.number) t.answer))
+  verdict_number (Ok p) among room t f = by (too_large p) refl t
     where
       by : (large : Bool) → too_large p ≡ large → Told (cond large (refuse refusal.ProductTooLarge)
           (cond (roomy p (length runin) (length loop)) (go p) (refuse refusal.BufferTooShort))) runin loop runin' loop' a → ⊥
       by true e t = omega (arith, ap (λ y. y.number) t.answer)
-      by false e t = planned_number p (rw (room refl (ltb-false 2048 (size p) e)) at t) f
+      by false e t = planned_number p (rw (room p refl (ltb-false 2048 (size p) e)) at t) f
 
 module _ (plan runin loop runin' loop' : List ℕ) (a : Answer) (t : AnswerTo plan runin loop runin' loop' a) where
   pub told_narrow : Narrow a
   told_narrow =
-      verdict_narrow runin loop runin' loop' a (read_plan plan).outcome (read_plan plan).plan (read_early plan).0 (read_early plan).1 (read_well plan) t
+      verdict_narrow runin loop runin' loop' a (read_plan plan) (read_early plan).0 (read_early plan).1 (read_well plan) t
 
   pub never_short : length runin ≡ 2048 → length loop ≡ 20480 → a.number ≢ 5
   never_short r l =
-      verdict_number runin loop runin' loop' a (read_plan plan).outcome (read_plan plan).plan (read_early plan).0
-      (λ e small. rw (r, l) (roomy_enough (read_plan plan).plan (read_well plan e) small)) t
+      verdict_number runin loop runin' loop' a (read_plan plan) (read_early plan).0
+      (λ p e small. rw (r, l) (roomy_enough p (read_well plan p e) small)) t

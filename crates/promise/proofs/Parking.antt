@@ -1,21 +1,21 @@
 -- A plan in which every place has a road out is answered as before parking counted (02, note 7).
 --   TourBefore, PlannedBefore, ToldBefore == what was told of a plan then: `TourOf`, `Planned` and `ToldOf`, with tours by roads alone
 --   told_as_before                        == of such a plan this is what is told
-use mathlib.Core.Path.{◌≡◌}
+use mathlib.Core.Path.{◌≡◌, refl}
 use mathlib.Core.Bool.{Bool, true, false, cond}
 use mathlib.Core.List.{List, ◌++◌}
 use mathlib.Core.Logic.{◌↔◌}
 use Prim.Native.Nat.{ℕ, ◌≤◌}
 use lib.Count.{ones}
 use lib.ListN.{length, drop}
+use Rattle.std.specs.Prelude.{Result, Ok, Err}
 use Rattle.plan.specs.Size.{size, loop_room, too_large, roomy}
 use Rattle.plan.specs.Tour.{Hard, Soft}
 use Rattle.plan.specs.Cost.{KeptIs, Counted}
 use Rattle.plan.specs.declared.Plan.{Plan}
+use Rattle.plan.specs.declared.Refusal.{Refusal}
 use Rattle.plan.specs.declared.Refusal.TheVariants as refusal
 use Rattle.plan.proofs.Parking.{Left, RoadTour, BestBefore, road_tours, tours_as_before, best_as_before}
-use Rattle.reader.specs.declared.Outcome.{Outcome}
-use Rattle.reader.specs.declared.Outcome.TheVariants as outcome
 use Rattle.answer.specs.declared.Answer.{Answer}
 use Rattle.promise.specs.Promise.{Verdict, refuse, go, verdict, refusal_answer, tour_answer, TourOf, Planned, none, tour, Refused, Told, ToldOf}
 
@@ -43,8 +43,8 @@ unfoldable pub ByVerdict : Verdict → List ℕ → List ℕ → List ℕ → Li
 ByVerdict (refuse x) runin loop runin' loop' a = Refused x runin loop runin' loop' a
 ByVerdict (go p) runin loop runin' loop' a = PlannedBefore p runin loop runin' loop' a
 
-abbrev pub ToldBefore : Outcome → Plan → List ℕ → List ℕ → List ℕ → List ℕ → Answer → Type 0
-ToldBefore o p runin loop runin' loop' a = ByVerdict (verdict o p (length runin) (length loop)) runin loop runin' loop' a
+abbrev pub ToldBefore : Result Plan Refusal → List ℕ → List ℕ → List ℕ → List ℕ → Answer → Type 0
+ToldBefore x runin loop runin' loop' a = ByVerdict (verdict x (length runin) (length loop)) runin loop runin' loop' a
 
 module _ (p : Plan) (left : Left p) (runin loop runin' loop' : List ℕ) (a : Answer) where
   to_before : TourOf p runin loop runin' loop' a → TourBefore p runin loop runin' loop' a
@@ -97,7 +97,8 @@ module _ (p : Plan) (left : Left p) (runin loop runin' loop' : List ℕ) (a : An
   by_room false true = (planned_to, planned_from)
   by_room false false = (λ t. t, λ t. t)
 
-  pub told_as_before : (o : Outcome) → ToldOf o p runin loop runin' loop' a ↔ ToldBefore o p runin loop runin' loop' a
-  unfolding verdict Told ByVerdict
-  told_as_before (outcome.Refused x) = (λ t. t, λ t. t)
-  told_as_before outcome.Plan = by_room (too_large p) (roomy p (length runin) (length loop))
+pub told_as_before : (x : Result Plan Refusal) → ((p : Plan) → x ≡ Ok p → Left p) → (runin loop runin' loop' : List ℕ) (a : Answer)
+    → ToldOf x runin loop runin' loop' a ↔ ToldBefore x runin loop runin' loop' a
+unfolding verdict Told ByVerdict
+told_as_before (Err x) left runin loop runin' loop' a = (λ t. t, λ t. t)
+told_as_before (Ok p) left runin loop runin' loop' a = by_room p (left p refl) runin loop runin' loop' a (too_large p) (roomy p (length runin) (length loop))

@@ -9,6 +9,7 @@ use lib.ListN.{length, take}
 use lib.Pow.{pow_mono}
 use lib.Seq.{take-append_seam}
 use borrow.Author.Tests.{lt-ltb}
+use Rattle.std.specs.Prelude.{Result, Ok, Err}
 use Rattle.text.specs.List.{under}
 use Rattle.text.specs.Fault as fault
 use Rattle.text.specs.declared.fault.Fault.{Fault}
@@ -23,8 +24,6 @@ use Rattle.plan.specs.declared.Refusal.{Refusal}
 use Rattle.plan.specs.declared.Refusal.TheVariants as refusal
 use Rattle.plan.proofs.Tours.{stem_under, cycle_under}
 use Rattle.reader.specs.Reading.{read_plan}
-use Rattle.reader.specs.declared.Outcome.{Outcome}
-use Rattle.reader.specs.declared.Outcome.TheVariants as outcome
 use Rattle.reader.proofs.Answers.{Turned, long, lined, read_turned}
 use Rattle.reader.proofs.WellRead.{read_well}
 use Rattle.answer.specs.Sound.{Sound}
@@ -84,20 +83,20 @@ module _ (runin loop runin' loop' : List ℕ) (a : Answer) where
     planned_sound (none n e r l) = refusal_sound refusal.NoTour e (omega arith) refl
     planned_sound (tour t) = tour_sound t
 
-  verdict_sound : (o : Outcome) (p : Plan) → ((x : Refusal) → o ≡ outcome.Refused x → Turned x) → (o ≡ outcome.Plan → WellFormed p)
-      → ToldOf o p runin loop runin' loop' a → SoundIn runin' loop' a
+  verdict_sound : (r : Result Plan Refusal) → ((x : Refusal) → r ≡ Err x → Turned x) → ((p : Plan) → r ≡ Ok p → WellFormed p)
+      → ToldOf r runin loop runin' loop' a → SoundIn runin' loop' a
   unfolding verdict Told kind_of
-  verdict_sound (outcome.Refused x) p why ok t = turned_sound x t.answer (why x refl)
-  verdict_sound outcome.Plan p why ok t = by (too_large p) (roomy p (length runin) (length loop)) t
+  verdict_sound (Err x) why ok t = turned_sound x t.answer (why x refl)
+  verdict_sound (Ok p) why ok t = by (too_large p) (roomy p (length runin) (length loop)) t
     where
       by : (large room : Bool)
           → Told (cond large (refuse refusal.ProductTooLarge) (cond room (go p) (refuse refusal.BufferTooShort))) runin loop runin' loop' a
           → SoundIn runin' loop' a
       by true room t = refusal_sound refusal.ProductTooLarge t.answer (omega arith) refl
-      by false true t = planned_sound p (ok refl) t
+      by false true t = planned_sound p (ok p refl) t
       by false false t = refusal_sound refusal.BufferTooShort t.answer (omega arith) refl
 
 pub told_sound : (plan runin loop runin' loop' : List ℕ) (a : Answer) → AnswerTo plan runin loop runin' loop' a
     → Sound a (take a.stem runin') (take a.cycle loop')
 told_sound plan runin loop runin' loop' a =
-    verdict_sound runin loop runin' loop' a (read_plan plan).outcome (read_plan plan).plan (read_turned plan) (read_well plan)
+    verdict_sound runin loop runin' loop' a (read_plan plan) (read_turned plan) (read_well plan)

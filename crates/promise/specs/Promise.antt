@@ -1,6 +1,6 @@
 -- What the planner promises of its answer: 01, "Why a plan is turned away", with demands 1 to 3.
 --   Verdict              == a refusal that needs no planning, or the plan to be planned
---   verdict o p r l      == of what a plan file reads as, and buffers of r and l bytes: its refusal 1 to 3, then 4 by the plan's size,
+--   verdict x r l        == of what a plan file reads as, and buffers of r and l bytes: its refusal 1 to 3, then 4 by the plan's size,
 --                           then 5; else the plan
 --   refusal_answer x      == the answer to a refusal: its number and line, and 0 in all else
 --   tour_answer p k s l   == the answer to a tour of p that keeps k, with run-in length s and loop length l
@@ -11,10 +11,10 @@
 --   Planned p runin loop runin' loop' a == there is no tour, and no byte has changed; or there is one
 --   Refused x runin loop runin' loop' a == refusal x is answered, and no byte has changed
 --   Told v runin loop runin' loop' a    == one of the two, as the verdict says
---   ToldOf o p runin loop runin' loop' a == so by the verdict on outcome o, plan p and these buffers
+--   ToldOf x runin loop runin' loop' a  == so by the verdict on what a plan file reads as, and these buffers
 --   AnswerTo file runin loop runin' loop' a
 --                        == a is the answer to a plan file: what is told of what it reads as
-use Rattle.std.specs.Prelude.{◌≡◌, cond, List, ◌++◌, ℕ, ◌≤◌, length, drop}
+use Rattle.std.specs.Prelude.{◌≡◌, cond, Result, Ok, Err, List, ◌++◌, ℕ, ◌≤◌, length, drop}
 use Rattle.std.specs.Int.Count.{ones}
 use Rattle.plan.specs.Refusal.{number, line_of}
 use Rattle.plan.specs.Size.{size, too_large, loop_room, roomy}
@@ -24,17 +24,15 @@ use Rattle.plan.specs.declared.Plan.{Plan}
 use Rattle.plan.specs.declared.Refusal.{Refusal}
 use Rattle.plan.specs.declared.Refusal.TheVariants as refusal
 use Rattle.reader.specs.Reading.{read_plan}
-use Rattle.reader.specs.declared.Outcome.{Outcome}
-use Rattle.reader.specs.declared.Outcome.TheVariants as outcome
 use Rattle.answer.specs.declared.Answer.{Answer}
 
 pub data Verdict : Type 0 where
   refuse : Refusal → Verdict
   go : Plan → Verdict
 
-unfoldable pub verdict : Outcome → Plan → ℕ → ℕ → Verdict
-verdict (outcome.Refused x) p r l = refuse x
-verdict outcome.Plan p r l = cond (too_large p) (refuse refusal.ProductTooLarge) (cond (roomy p r l) (go p) (refuse refusal.BufferTooShort))
+unfoldable pub verdict : Result Plan Refusal → ℕ → ℕ → Verdict
+verdict (Err x) r l = refuse x
+verdict (Ok p) r l = cond (too_large p) (refuse refusal.ProductTooLarge) (cond (roomy p r l) (go p) (refuse refusal.BufferTooShort))
 
 abbrev pub refusal_answer : Refusal → Answer
 refusal_answer x = record { number = number x; line = line_of x; cost = 0; kept = 0; count = 0; stem = 0; cycle = 0 }
@@ -73,8 +71,8 @@ unfoldable pub Told : Verdict → List ℕ → List ℕ → List ℕ → List �
 Told (refuse x) runin loop runin' loop' a = Refused x runin loop runin' loop' a
 Told (go p) runin loop runin' loop' a = Planned p runin loop runin' loop' a
 
-abbrev pub ToldOf : Outcome → Plan → List ℕ → List ℕ → List ℕ → List ℕ → Answer → Type 0
-ToldOf o p runin loop runin' loop' a = Told (verdict o p (length runin) (length loop)) runin loop runin' loop' a
+abbrev pub ToldOf : Result Plan Refusal → List ℕ → List ℕ → List ℕ → List ℕ → Answer → Type 0
+ToldOf x runin loop runin' loop' a = Told (verdict x (length runin) (length loop)) runin loop runin' loop' a
 
 abbrev pub AnswerTo : List ℕ → List ℕ → List ℕ → List ℕ → List ℕ → Answer → Type 0
-AnswerTo file runin loop runin' loop' a = ToldOf (read_plan file).outcome (read_plan file).plan runin loop runin' loop' a
+AnswerTo file runin loop runin' loop' a = ToldOf (read_plan file) runin loop runin' loop' a

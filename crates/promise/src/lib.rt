@@ -26,12 +26,12 @@ pub fn refusal_answer(x: Refusal) -> Answer
 }
 
 // The answer to a tour that keeps these rules.
+#[tactic(auto, using(plan::proofs::Charging::cost_small))]
 pub fn tour_answer(p: Plan, kept: u64, stem: usize, cycle: usize) -> Answer
     requires { WellFormed p × (kept < 256) × (stem < 65536) × (cycle < 65536) }
     ensures { result ≡ tour_answer p kept stem cycle }
 {
-    let weights = p.weights;
-    let cost = cost_of(&weights, p.rules as usize, kept);
+    let cost = cost_of(&p.weights, p.rules as usize, kept);
     Answer {
         number: 0,
         line: 0,

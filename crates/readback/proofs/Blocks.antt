@@ -1,7 +1,6 @@
 -- The block of a reply: its length, how it is written, and that its bytes say the reply.
 --   length_block == it has thirty-two bytes
---   head_done    == seven fields written one after the other are its first half
---   block_done   == with both lengths behind them they are the block
+--   block_done   == its first twelve bytes, the line and both lengths, written one after the other, are the block
 --   Narrow q     == each number of q has room in its bytes
 --   block_says   == then the bytes of the block say the reply
 --   reply_narrow == so it is of every text, with buffers of lengths that 64 bits can hold
@@ -14,53 +13,40 @@ use lib.Dec.{ltb}
 use lib.ListN.{length, drop}
 use borrow.Author.Tests.{ltb-true, ltb-false}
 use Rattle.text.specs.Over.{Wrote}
-use Rattle.text.proofs.Overs.{left_start, left_next, left_last, wrote_front, wrote_three}
-use Rattle.answer.specs.Block.{little}
+use Rattle.text.proofs.Overs.{left_start, left_next, left_last, wrote_front}
+use Rattle.answer.specs.Block.{little, head_of}
 use Rattle.answer.proofs.Blocks.{number_little}
 use Rattle.plan.specs.Answers.{kind_of, consistent}
 use Rattle.plan.proofs.Numbers.{never, number_low}
 use Rattle.readback.specs.Reading.{read_answer}
-use Rattle.readback.specs.Reply.{number, line_of, record_of}
-use Rattle.readback.specs.Block.{head_of, block_of, said, said_by}
+use Rattle.plan.specs.Returned.{number_of, line_of}
+use Rattle.plan.specs.declared.Refusal.{Refusal}
+use Rattle.readback.specs.Reply.{record_of}
+use Rattle.readback.specs.Block.{block_of, said, said_by}
 use Rattle.readback.specs.declared.Record.{Record}
-use Rattle.readback.specs.declared.Reply.{Reply}
-use Rattle.readback.specs.declared.Reply.TheVariants.{Read, Refused}
+use Rattle.std.specs.Prelude.{Result, Ok, Err}
 use Rattle.readback.proofs.PrintsBack.{read_sound, read_fits, reply_line_low}
 
-pub length_block : (q : Reply) → length (block_of q) ≡ 32
+pub length_block : (q : Result Record Refusal) → length (block_of q) ≡ 32
 unfolding little head_of block_of
 length_block q = refl
 
-pub head_done : {b b₁ b₂ b₃ b₄ b₅ b₆ b₇ : List ℕ} (n line : ℕ) (x : Record) → 16 ≤ length b
-    → Wrote b 0 (little 1 n) b₁ 1
-    → Wrote b₁ 1 (little 1 x.kept) b₂ 2
-    → Wrote b₂ 2 (little 1 x.number) b₃ 3
-    → Wrote b₃ 3 (little 1 0) b₄ 4
-    → Wrote b₄ 4 (little 4 line) b₅ 8
-    → Wrote b₅ 8 (little 4 x.cost) b₆ 12
-    → Wrote b₆ 12 (little 4 x.line) b₇ 16
-    → Wrote b 0 (head_of n line x) b₇ 16
-unfolding little head_of
-head_done {b} n line x room d₁ d₂ d₃ d₄ d₅ d₆ d₇ =
-    let l₁ = left_next (little 1 n) _ (left_start b 0 (head_of n line x) (omega arith)) d₁ in
-    let l₂ = left_next (little 1 x.kept) _ l₁ d₂ in
-    let l₃ = left_next (little 1 x.number) _ l₂ d₃ in
-    let l₄ = left_next (little 1 0) _ l₃ d₄ in
-    let l₅ = left_next (little 4 line) _ l₄ d₅ in
-    let l₆ = left_next (little 4 x.cost) _ l₅ d₆ in
-    left_last l₆ d₇
-
-pub block_done : (q : Reply) {b b₁ b₂ b₃ : List ℕ} (n line : ℕ) (x : Record) → 32 ≤ length b → n ≡ number q → line ≡ line_of q → x ≡ record_of q
-    → Wrote b 0 (head_of n line x) b₁ 16
-    → Wrote b₁ 16 (little 8 x.stem) b₂ 24
-    → Wrote b₂ 24 (little 8 x.cycle) b₃ 32
-    → b₃ ≡ block_of q ++ drop 32 b
+pub block_done : (q : Result Record Refusal) {b b₁ b₂ b₃ b₄ : List ℕ} (n line : ℕ) (x : Record) → 32 ≤ length b → n ≡ number_of q → line ≡ line_of q → x ≡ record_of q
+    → Wrote b 0 (head_of n x.kept x.number line x.cost) b₁ 12
+    → Wrote b₁ 12 (little 4 x.line) b₂ 16
+    → Wrote b₂ 16 (little 8 x.stem) b₃ 24
+    → Wrote b₃ 24 (little 8 x.cycle) b₄ 32
+    → b₄ ≡ block_of q ++ drop 32 b
 unfolding little head_of block_of
-block_done q {b} n line x room e f g d₁ d₂ d₃ =
-    rw (← e, ← f, ← g) (wrote_front (wrote_three (head_of n line x) (little 8 x.stem) (little 8 x.cycle) (omega arith) d₁ d₂ d₃)).1
+block_done q {b} n line x room e f g d₁ d₂ d₃ d₄ =
+    let head : List ℕ = head_of n x.kept x.number line x.cost in
+    let l₁ = left_next head _ (left_start b 0 (head ++ (little 4 x.line ++ (little 8 x.stem ++ little 8 x.cycle))) (omega arith)) d₁ in
+    let l₂ = left_next (little 4 x.line) _ l₁ d₂ in
+    let l₃ = left_next (little 8 x.stem) _ l₂ d₃ in
+    rw (← e, ← f, ← g) (wrote_front (left_last l₃ d₄)).1
 
-pub record Narrow (q : Reply) : Type 0 where
-  pub number : number q < 256
+pub record Narrow (q : Result Record Refusal) : Type 0 where
+  pub number : number_of q < 256
   pub line : line_of q < 4294967296
   pub answer : (record_of q).number < 256
   pub plan_line : (record_of q).line < 4294967296
@@ -69,11 +55,11 @@ pub record Narrow (q : Reply) : Type 0 where
   pub stem : (record_of q).stem < 18446744073709551616
   pub cycle : (record_of q).cycle < 18446744073709551616
 
-pub block_says : (q : Reply) → Narrow q → said_by (block_of q) ≡ said q
+pub block_says : (q : Result Record Refusal) → Narrow q → said_by (block_of q) ≡ said q
 unfolding little head_of block_of said_by
 block_says q h =
     rw (
-      number_little 1 (number q) h.number,
+      number_little 1 (number_of q) h.number,
       number_little 1 (record_of q).kept h.kept,
       number_little 1 (record_of q).number h.answer,
       number_little 4 (line_of q) h.line,
@@ -94,8 +80,8 @@ module _ (s : List ℕ) (r l : ℕ) (few : r < 18446744073709551616) (short : l 
   pub reply_narrow : Narrow (read_answer s r l)
   reply_narrow = by (read_answer s r l) refl
     where
-      by : (q : Reply) → read_answer s r l ≡ q → Narrow (read_answer s r l)
-      by (Read x) e =
+      by : (q : Result Record Refusal) → read_answer s r l ≡ q → Narrow (read_answer s r l)
+      by (Ok x) e =
           let sound = read_sound s r l x e in
           let room = read_fits s r l x e in
           rw e (record {
@@ -108,7 +94,7 @@ module _ (s : List ℕ) (r l : ℕ) (few : r < 18446744073709551616) (short : l 
             stem = omega (arith, room.0);
             cycle = omega (arith, room.1);
           })
-      by (Refused x) e =
+      by (Err x) e =
           let low = rw e at (reply_line_low s r l) in
           rw e (record {
             number = omega (arith, number_low x);

@@ -23,17 +23,15 @@ use borrow.Author.Tests.{leb-true}
 use lib.Count.{ones}
 use lib.Dec.{leb}
 use lib.ListN.{length, drop_of_length-le}
+use Rattle.std.specs.Prelude.{Ok, Err}
 use Rattle.base.proofs.Tests.{and_left, and_right}
 use Rattle.text.specs.Scan.{newlines}
-use Rattle.text.specs.Line.{first_of, line_of_one, top, good}
-use Rattle.text.specs.List.{list_line}
+use Rattle.text.specs.Line.{first_of, line_of_one, top, good, Line}
+use Rattle.text.specs.List.{list_line, ListLine}
 use Rattle.text.specs.Runs.{Stands}
 use Rattle.text.specs.Decimal.{decimal}
 use Rattle.text.specs.KeyLine.{key_line}
-use Rattle.text.specs.declared.line.Line.{Line}
-use Rattle.text.specs.declared.line.Line.TheVariants as line
-use Rattle.text.specs.declared.list.ListLine.{ListLine}
-use Rattle.text.proofs.Lines.{one_is}
+use Rattle.text.proofs.Lines.{one_most}
 use Rattle.text.proofs.Lists.{under_more}
 use Rattle.text.proofs.StoodLines.{stood_join, next_at, Follows, follows_good, number_follows, one_follows, list_follows, finish_good}
 use Rattle.text.proofs.StoodLines.{newlines_decimal, newlines_joined, newlines_line, fault_line, begun_top, begun_next, begun_finish}
@@ -42,9 +40,8 @@ use Rattle.answer.specs.Sound.{Sound}
 use Rattle.answer.specs.Text.{answer_key, line_key, cost_key, kept_key, runin_key, loop_key, figures, text_of}
 use Rattle.answer.specs.declared.Answer.{Answer}
 use Rattle.readback.specs.Reading.{known, answer_line, draft_of, agrees, roomy, judge, reply_of, read_answer, runin_of, loop_of}
-use Rattle.readback.specs.Reply.{line_of}
+use Rattle.plan.specs.Returned.{line_of}
 use Rattle.readback.specs.declared.Record.{Record}
-use Rattle.readback.specs.declared.Reply.TheVariants.{Read, Refused}
 
 abbrev pub answer_of : Record → Answer
 answer_of x = record {
@@ -63,12 +60,12 @@ record Accepted (x : Record) (r l : ℕ) (y : Record) : Type 0 where
   pub cycle : x.cycle ≤ l
   pub agree : agrees x ≡ true
 
-judge_read : (x : Record) (r l : ℕ) (y : Record) → judge x r l ≡ Read y → Accepted x r l y
+judge_read : (x : Record) (r l : ℕ) (y : Record) → judge x r l ≡ Ok y → Accepted x r l y
 unfolding judge
 judge_read x r l y e = by (roomy x r l) (agrees x) refl refl e
   where
     by : (t u : Bool) → roomy x r l ≡ t → agrees x ≡ u
-        → cond t (cond u (Read x) (Refused refusal.Contradiction)) (Refused refusal.BufferTooShort) ≡ Read y → Accepted x r l y
+        → cond t (cond u (Ok x) (Err refusal.Contradiction)) (Err refusal.BufferTooShort) ≡ Ok y → Accepted x r l y
     by true true p q h = record {
       same = cc h;
       stem = leb-true x.stem r (and_left (leb x.stem r) (leb x.cycle l) p);
@@ -78,14 +75,14 @@ judge_read x r l y e = by (roomy x r l) (agrees x) refl refl e
     by true false p q h = let z : ◌≡◌ {A = ℕ} 0 1 = cc in absurd (omega arith)
     by false u p q h = let z : ◌≡◌ {A = ℕ} 0 1 = cc in absurd (omega arith)
 
-read_accepted : (s : List ℕ) (r l : ℕ) (y : Record) → read_answer s r l ≡ Read y
+read_accepted : (s : List ℕ) (r l : ℕ) (y : Record) → read_answer s r l ≡ Ok y
     → (good (draft_of s).line ≡ true) × Accepted (draft_of s).says r l y
 unfolding read_answer
 read_accepted s r l y e = by (draft_of s).line e
   where
-    by : (last : Line) → reply_of last (draft_of s).says r l ≡ Read y → (good last ≡ true) × Accepted (draft_of s).says r l y
-    by (line.Fault f) e = let z : ◌≡◌ {A = ℕ} 0 1 = cc in absurd (omega arith)
-    by (line.Numbers xs c) e = (refl, judge_read (draft_of s).says r l y e)
+    by : (last : Line) → reply_of last (draft_of s).says r l ≡ Ok y → (good last ≡ true) × Accepted (draft_of s).says r l y
+    by (Err f) e = let z : ◌≡◌ {A = ℕ} 0 1 = cc in absurd (omega arith)
+    by (Ok (xs, c)) e = (refl, judge_read (draft_of s).says r l y e)
 
 answer_follows : (s : List ℕ) (l : Line) → Follows s l (key_line answer_key (decimal (first_of (answer_line s l)))) (answer_line s l)
 unfolding answer_line
@@ -137,21 +134,21 @@ module _ (s : List ℕ) (g : good (draft_of s).line ≡ true) where
       record {
         stem_length = five.whole stem;
         cycle_length = six.whole turn;
-        line = omega (arith, (one_is s (first s) line_key 0 65536 (second s) refl).first_low);
-        cost = omega (arith, (one_is s (second s) cost_key 0 32000001 (third s) refl).first_low);
-        kept = omega (arith, (one_is s (third s) kept_key 0 256 (fourth s) refl).first_low);
+        line = omega (arith, one_most s (first s) line_key 0 65536);
+        cost = omega (arith, one_most s (second s) cost_key 0 32000001);
+        kept = omega (arith, one_most s (third s) kept_key 0 256);
         stem_places = five.fits stem;
         cycle_places = six.fits turn;
         agrees = a;
       }
 
-pub read_sound : (s : List ℕ) (r l : ℕ) (x : Record) → read_answer s r l ≡ Read x → Sound (answer_of x) (runin_of s) (loop_of s)
+pub read_sound : (s : List ℕ) (r l : ℕ) (x : Record) → read_answer s r l ≡ Ok x → Sound (answer_of x) (runin_of s) (loop_of s)
 read_sound s r l x e = let t = read_accepted s r l x e in rw t.1.same (lines_sound s t.0 t.1.agree)
 
-pub read_fits : (s : List ℕ) (r l : ℕ) (x : Record) → read_answer s r l ≡ Read x → (x.stem ≤ r) × (x.cycle ≤ l)
+pub read_fits : (s : List ℕ) (r l : ℕ) (x : Record) → read_answer s r l ≡ Ok x → (x.stem ≤ r) × (x.cycle ≤ l)
 read_fits s r l x e = let t = read_accepted s r l x e in rw t.1.same (t.1.stem, t.1.cycle)
 
-pub read_again : (s : List ℕ) (r l : ℕ) (x : Record) → read_answer s r l ≡ Read x → text_of (answer_of x) (runin_of s) (loop_of s) ≡ s
+pub read_again : (s : List ℕ) (r l : ℕ) (x : Record) → read_answer s r l ≡ Ok x → text_of (answer_of x) (runin_of s) (loop_of s) ≡ s
 read_again s r l x e = let t = read_accepted s r l x e in rw t.1.same (lines_stood s t.0)
 
 pub record Listed (s : List ℕ) (r l : ℕ) : Type 0 where
@@ -160,7 +157,7 @@ pub record Listed (s : List ℕ) (r l : ℕ) : Type 0 where
   pub stem_room : (draft_of s).stem.count ≤ r
   pub cycle_room : (draft_of s).cycle.count ≤ l
 
-pub read_stands : (s : List ℕ) (r l : ℕ) (x : Record) → read_answer s r l ≡ Read x → Listed s r l
+pub read_stands : (s : List ℕ) (r l : ℕ) (x : Record) → read_answer s r l ≡ Ok x → Listed s r l
 unfolding draft_of
 read_stands s r l x e =
     let t = read_accepted s r l x e in
@@ -187,7 +184,7 @@ judge_line : (x : Record) (r l : ℕ) → line_of (judge x r l) ≡ 0
 unfolding judge
 judge_line x r l = by (roomy x r l) (agrees x)
   where
-    by : (t u : Bool) → line_of (cond t (cond u (Read x) (Refused refusal.Contradiction)) (Refused refusal.BufferTooShort)) ≡ 0
+    by : (t u : Bool) → line_of (cond t (cond u (Ok x) (Err refusal.Contradiction)) (Err refusal.BufferTooShort)) ≡ 0
     by true true = refl
     by true false = refl
     by false u = refl
@@ -197,5 +194,5 @@ unfolding read_answer
 reply_line_low s r l = by (draft_of s).line (lines_low s)
   where
     by : (last : Line) → fault_line last ≤ 7 → line_of (reply_of last (draft_of s).says r l) ≤ 7
-    by (line.Fault f) h = h
-    by (line.Numbers xs c) h = omega (arith, judge_line (draft_of s).says r l)
+    by (Err f) h = h
+    by (Ok (xs, c)) h = omega (arith, judge_line (draft_of s).says r l)

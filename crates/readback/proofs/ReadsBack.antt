@@ -13,12 +13,12 @@ use Prim.Native.Nat.{ℕ, ◌+◌, ◌≤◌}
 use native.Mathlib.Omega.{arith}
 use borrow.Author.Tests.{le-leb}
 use lib.ListN.{length, drop}
+use Rattle.std.specs.Prelude.{Ok}
 use Rattle.text.specs.Decimal.{decimal}
 use Rattle.text.specs.KeyLine.{joined, key_line}
 use Rattle.text.specs.Line.{pair}
 use Rattle.text.specs.List.{places_of}
 use Rattle.text.specs.declared.line.Numbers.{Numbers}
-use Rattle.text.specs.declared.line.Line.TheVariants as line
 use Rattle.text.specs.declared.list.Span.{Span}
 use Rattle.text.proofs.ReadLines.{line_rest, value_back, within_from_0, one_back, list_back, places_back, finish_back}
 use Rattle.plan.specs.Answers.{kind_of, consistent}
@@ -28,10 +28,8 @@ use Rattle.answer.specs.Text.{answer_key, line_key, cost_key, kept_key, runin_ke
 use Rattle.answer.specs.Sound.{Sound}
 use Rattle.answer.specs.declared.Answer.{Answer}
 use Rattle.answer.proofs.Texts.{lines_of, text_lines}
-use Rattle.readback.specs.Reading.{given, known, answer_line, draft_of, judge, read_answer, runin_of, loop_of}
+use Rattle.readback.specs.Reading.{Lines, given, known, answer_line, draft_of, judge, read_answer, runin_of, loop_of}
 use Rattle.readback.specs.declared.Record.{Record}
-use Rattle.readback.specs.declared.Draft.{Draft}
-use Rattle.readback.specs.declared.Reply.TheVariants.{Read}
 
 given_all : (k : Kind) (line cost kept stem cycle : ℕ) → consistent k line cost kept stem cycle ≡ true → given k ≡ true
 given_all kind.Tour line cost kept stem cycle e = refl
@@ -43,8 +41,8 @@ known_sound : (a : Answer) (stem cycle : List ℕ) → Sound a stem cycle → kn
 known_sound a stem cycle h = given_all (kind_of a.number) a.line a.cost a.kept a.stem a.cycle h.agrees
 
 answer_back : (s : List ℕ) (at n : ℕ) (rest : List ℕ) → drop at s ≡ key_line answer_key (decimal n) ++ rest → known n ≡ true → (xs : Numbers)
-    → answer_line s (line.Numbers xs (record { at = at }))
-    ≡ line.Numbers (pair n 0) (record { at = at + length (key_line answer_key (decimal n)) })
+    → answer_line s (Ok (xs, record { at = at }))
+    ≡ Ok (pair n 0, record { at = at + length (key_line answer_key (decimal n)) })
 unfolding answer_line
 answer_back s at n rest k fit xs = rw (value_back s at answer_key n rest k, fit)
 
@@ -55,7 +53,7 @@ record Drafted (a : Answer) (stem cycle s : List ℕ) : Type 0 where
   pub end : ℕ
   pub runin : Span
   pub loop : Span
-  pub is : ◌≡◌ {A = Draft} (draft_of s) (record { line = line.Numbers (pair 0 0) (record { at = end }); says = says a; stem = runin; cycle = loop })
+  pub is : ◌≡◌ {A = Lines} (draft_of s) (record { line = Ok (pair 0 0, record { at = end }); says = says a; stem = runin; cycle = loop })
   pub stem_back : places_of s runin ≡ stem
   pub cycle_back : places_of s loop ≡ cycle
 
@@ -98,7 +96,7 @@ printed a stem cycle h = drafted a stem cycle h (text_of a stem cycle) (text_lin
 
 pub sound_read : (a : Answer) (stem cycle : List ℕ) → Sound a stem cycle → (r l : ℕ) → length stem ≤ r → length cycle ≤ l
     → read_answer (text_of a stem cycle) r l
-    ≡ Read (record { number = a.number; line = a.line; cost = a.cost; kept = a.kept; stem = a.stem; cycle = a.cycle })
+    ≡ Ok (record { number = a.number; line = a.line; cost = a.cost; kept = a.kept; stem = a.stem; cycle = a.cycle })
 unfolding read_answer judge
 sound_read a stem cycle h r l hr hl =
     let d = printed a stem cycle h in

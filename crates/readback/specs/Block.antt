@@ -1,35 +1,30 @@
 -- The block of a reply (02, note 2, for a host), and what its bytes say.
---   head_of n line x == its first sixteen bytes, of the reply's number and line and what was read
 --   block_of q == its thirty-two bytes
 --   Said      == the numbers of a block: the reply's number and line, and of the answer that was read its number, line, cost, kept, and the
 --                lengths of run-in and loop
 --   said q    == those of a reply
 --   said_by b  == those that the bytes b say
-use Rattle.std.specs.Prelude.{List, ◌∷◌, ◌++◌, ℕ, take, drop}
+use Rattle.std.specs.Prelude.{List, ◌++◌, ℕ, take, drop, Result}
 use Rattle.answer.specs.Block as bytes
-use Rattle.answer.specs.Block.{little}
-use Rattle.readback.specs.Reply.{number, line_of, record_of}
+use Rattle.answer.specs.Block.{little, head_of}
+use Rattle.plan.specs.Returned.{number_of, line_of}
+use Rattle.readback.specs.Reply.{record_of}
 use Rattle.readback.specs.declared.Record.{Record}
-use Rattle.readback.specs.declared.Reply.{Reply}
+use Rattle.plan.specs.declared.Refusal.{Refusal}
 
--- byte 0 the number, 1 kept, 2 the answer's number, 3 zero, 4..7 line, 8..11 cost, 12..15 the answer's line
-unfoldable pub head_of : ℕ → ℕ → Record → List ℕ
-head_of n line x =
-    little 1 n
-    ++ (little 1 x.kept
-    ++ (little 1 x.number ++ (0 ∷ (little 4 line ++ (little 4 x.cost ++ little 4 x.line)))))
-
--- 16..23 run-in length, 24..31 loop length
-unfoldable pub block_of : Reply → List ℕ
-block_of q = head_of (number q) (line_of q) (record_of q) ++ (little 8 (record_of q).stem ++ little 8 (record_of q).cycle)
+-- of the head, byte 2 the answer's number; 12..15 the answer's line, 16..23 run-in length, 24..31 loop length
+unfoldable pub block_of : Result Record Refusal → List ℕ
+block_of q =
+    let x = record_of q in
+    head_of (number_of q) x.kept x.number (line_of q) x.cost ++ (little 4 x.line ++ (little 8 x.stem ++ little 8 x.cycle))
 
 pub record Said : Type 0 where
   pub number : ℕ
   pub line : ℕ
   pub answer : Record
 
-abbrev pub said : Reply → Said
-said q = record { number = number q; line = line_of q; answer = record_of q }
+abbrev pub said : Result Record Refusal → Said
+said q = record { number = number_of q; line = line_of q; answer = record_of q }
 
 unfoldable pub said_by : List ℕ → Said
 said_by b =

@@ -11,7 +11,7 @@
 --   single_as_before    == and so does every file that passed before and has each road once
 --   twice_turned        == a file that passed before and has a road twice is turned away so
 use mathlib.Core.Path.{◌≡◌, refl, sym, ap, subst, ◌∙◌}
-use mathlib.Core.Bool.{Bool, true, false, cond}
+use mathlib.Core.Bool.{Bool, true, false}
 use mathlib.Core.List.{List}
 use mathlib.Core.Logic.{◌⊎◌, inl, inr}
 use Prim.Native.Nat.{ℕ, zero, suc, ◌+◌, ◌^◌, ◌≤◌, ◌<◌}
@@ -20,31 +20,26 @@ use borrow.Author.Tests.{eqb-true}
 use lib.Dec.{eqb, ltb}
 use lib.ListN.{length, get_or, set, replicate, length-set, length-replicate}
 use lib.Seq.{get_or-set_same, get_or-set_other}
+use Rattle.std.specs.Prelude.{Result, Some, None, Ok, Err}
 use Rattle.base.proofs.Tests.{and_left, and_right, any_elim}
-use Rattle.text.specs.Scan.{key_at, next_number, value_of, line_at}
-use Rattle.text.specs.Line.{behind, pair, closed, line_of_one, numbers_of, first_of, top, finish}
+use Rattle.text.specs.Scan.{first_number, key_at, next_number, value_of, line_at, Number}
+use Rattle.text.specs.Line.{behind, pair, closed, line_of_one, numbers_of, first_of, top, finish, Line}
 use Rattle.text.specs.declared.fault.Fault.{Fault}
 use Rattle.text.specs.declared.fault.Fault.TheVariants.{Doubled}
-use Rattle.text.specs.declared.read.Number.{Number}
-use Rattle.text.specs.declared.read.Number.TheVariants.{Value, Bad}
 use Rattle.text.specs.declared.line.Numbers.{Numbers}
-use Rattle.text.specs.declared.line.Line.{Line}
-use Rattle.text.specs.declared.line.Line.TheVariants as line
-use Rattle.text.proofs.Lines.{one_is}
+use Rattle.text.proofs.Lines.{one_most}
 use Rattle.plan.specs.declared.Plan.{Plan}
 use Rattle.plan.specs.declared.Refusal.TheVariants as refusal
+use Rattle.plan.specs.declared.Refusal.{Refusal}
+use Rattle.plan.specs.declared.Road.{Road}
+use Rattle.plan.specs.WellFormed.{no_road}
 use Rattle.reader.specs.Keys.{tour_key, marks_key, places_key, start_key, roads_key, road_key, rules_key}
 use Rattle.reader.specs.Line.{road_fits, once, road_line, move_line}
-use Rattle.reader.specs.Blocks.{repeat, Filling, label_block, on_line, earlier, road_step, road_block, hard_block, soft_blocks}
-use Rattle.reader.specs.Map.{map_of}
-use Rattle.reader.specs.Reading.{draft_from, draft_of, refuse, answer, answer_to, read_plan}
-use Rattle.reader.specs.declared.block.RoadBlock.{RoadBlock}
-use Rattle.reader.specs.declared.map.Map.{Map}
-use Rattle.reader.specs.declared.Draft.{Draft}
-use Rattle.reader.specs.declared.Outcome.TheVariants as outcome
-use Rattle.reader.specs.declared.Reading.{Reading}
+use Rattle.reader.specs.Blocks.{RoadBlock, repeat, Filling, label_block, road_of, on_line, earlier, road_step, road_block, hard_block, soft_blocks}
+use Rattle.reader.specs.Map.{MapBlock, map_of}
+use Rattle.reader.specs.Reading.{draft_from, draft_of, answer, answer_to, read_plan}
 use Rattle.reader.proofs.Sticky.{Sticky, hard_keeps, softs_keep}
-use Rattle.reader.proofs.WellRead.{answer_plan}
+use Rattle.reader.proofs.WellRead.{answer_passed}
 use Rattle.reader.proofs.Singles.{Twice, Single, single_twice, read_single}
 
 -- reading as it was
@@ -52,7 +47,7 @@ unfoldable pub road_before : List ℕ → Line → List ℕ → ℕ → Line
 road_before s prior key bound =
     behind prior
     (λ at.
-    let a = next_number s (key_at s at key) 44 in
+    let a = first_number s (key_at s at key) 44 in
     let b = next_number s a 10 in
     let xs = pair (value_of a) (value_of b) in
     closed s at b (road_fits xs bound) xs)
@@ -60,17 +55,13 @@ road_before s prior key bound =
 abbrev pub step_before : List ℕ → ℕ → Filling RoadBlock → Filling RoadBlock
 step_before s bound x =
     let l = road_before s x.block.line road_key bound in
-    let xs = numbers_of l in
-    record {
-      next = x.next + 1;
-      block = record { line = l; from = set x.block.from x.next xs.first; to = set x.block.to x.next xs.second };
-    }
+    record { next = x.next + 1; block = record { line = l; roads = set x.block.roads x.next (road_of (numbers_of l)) } }
 
 unfoldable pub roads_before : List ℕ → Line → ℕ → ℕ → RoadBlock
 roads_before s prior n bound =
-    (repeat n (step_before s bound) (record { next = 0; block = record { line = prior; from = replicate 1024 0; to = replicate 1024 0 } })).block
+    (repeat n (step_before s bound) (record { next = 0; block = record { line = prior; roads = replicate 1024 no_road } })).block
 
-unfoldable pub map_before : List ℕ → Map
+unfoldable pub map_before : List ℕ → MapBlock
 map_before s =
     let tour = line_of_one s top tour_key 1 2 in
     let marks = line_of_one s tour marks_key 0 9 in
@@ -81,24 +72,25 @@ map_before s =
     let roads = roads_before s count (first_of count) (first_of places) in
     record {
       line = roads.line;
-      marks = first_of marks;
-      places = first_of places;
-      start = first_of start;
-      roads = first_of count;
-      labels = labels.labels;
-      from = roads.from;
-      to = roads.to;
+      map = record {
+        marks = first_of marks;
+        places = first_of places;
+        start = first_of start;
+        road_count = first_of count;
+        labels = labels.labels;
+        roads = roads.roads;
+      };
     }
 
-unfoldable pub read_before : List ℕ → Reading
+unfoldable pub read_before : List ℕ → Result Plan Refusal
 read_before s = answer_to s (draft_from s (map_before s))
 
 pub record AtDouble (l : Line) : Type 0 where
   pub told : ℕ
-  pub fault : l ≡ line.Fault (Doubled told)
+  pub fault : l ≡ Err (Doubled told)
 
 -- such a fault stays
-behind_double : {l r : Line} → AtDouble l → ((f : Fault) → l ≡ line.Fault f → r ≡ line.Fault f) → AtDouble r
+behind_double : {l r : Line} → AtDouble l → ((f : Fault) → l ≡ Err f → r ≡ Err f) → AtDouble r
 behind_double d h = record { told = d.told; fault = h _ d.fault }
 
 stays : (s : List ℕ) → Sticky s AtDouble
@@ -117,72 +109,65 @@ pub record Again (again : Numbers → Bool) (l r : Line) : Type 0 where
 module _ (s : List ℕ) where
   once_narrowed : (at : ℕ) (again : Numbers → Bool) (b : Number) (fit : Bool) (xs : Numbers)
       → (once s at (again xs) (closed s at b fit xs) ≡ closed s at b fit xs) ⊎ Again again (once s at (again xs) (closed s at b fit xs)) (closed s at b fit xs)
-  once_narrowed at again Bad fit xs = inl refl
-  once_narrowed at again (Value v i) false xs = inl refl
-  once_narrowed at again (Value v i) true xs = by (again xs) refl
+  once_narrowed at again None fit xs = inl refl
+  once_narrowed at again (Some (v, i)) false xs = inl refl
+  once_narrowed at again (Some (v, i)) true xs = by (again xs) refl
     where
       by : (t : Bool) → again xs ≡ t
-          → (once s at (again xs) (line.Numbers xs (record { at = i })) ≡ line.Numbers xs (record { at = i }))
-          ⊎ Again again (once s at (again xs) (line.Numbers xs (record { at = i }))) (line.Numbers xs (record { at = i }))
+          → (once s at (again xs) (Ok (xs, record { at = i })) ≡ Ok (xs, record { at = i }))
+          ⊎ Again again (once s at (again xs) (Ok (xs, record { at = i }))) (Ok (xs, record { at = i }))
       by true e = inr (record { at_double = record { told = line_at s at; fault = rw e }; again_there = e })
       by false e = inl (rw e)
 
   pub line_narrowed : (l : Line) (key : List ℕ) (bound : ℕ) (again : Numbers → Bool)
       → (road_line s l key bound again ≡ road_before s l key bound) ⊎ Again again (road_line s l key bound again) (road_before s l key bound)
   unfolding road_line road_before
-  line_narrowed (line.Fault f) key bound again = inl refl
-  line_narrowed (line.Numbers xs c) key bound again =
-      let a = next_number s (key_at s c.at key) 44 in let b = next_number s a 10 in let ys = pair (value_of a) (value_of b) in
+  line_narrowed (Err f) key bound again = inl refl
+  line_narrowed (Ok (xs, c)) key bound again =
+      let a = first_number s (key_at s c.at key) 44 in let b = next_number s a 10 in let ys = pair (value_of a) (value_of b) in
       once_narrowed c.at again b (road_fits ys bound) ys
 
   -- a road more leaves what stood twice, and a pair that an earlier line has stands twice then
-  twice_more : (from to : List ℕ) (n x y : ℕ) → Twice from to n → Twice (set from n x) (set to n y) (n + 1)
-  twice_more from to n x y t = record {
-    one = t.one;
-    other = t.other;
-    apart = t.apart;
-    listed = omega (arith, t.listed);
-    same_from = from_other t.one (omega (arith, t.apart, t.listed)) ∙ t.same_from ∙ sym (from_other t.other t.listed);
-    same_to = to_other t.one (omega (arith, t.apart, t.listed)) ∙ t.same_to ∙ sym (to_other t.other t.listed);
-  }
+  twice_more : (roads : List Road) (n : ℕ) (x : Road) → Twice roads n → Twice (set roads n x) (n + 1)
+  twice_more roads n x t =
+      let e = other t.one (omega (arith, t.apart, t.listed)) in let f = other t.other t.listed in
+      record {
+        one = t.one;
+        other = t.other;
+        apart = t.apart;
+        listed = omega (arith, t.listed);
+        same_from = rw (e, f) t.same_from;
+        same_to = rw (e, f) t.same_to;
+      }
     where
-      from_other : (u : ℕ) → u < n → get_or (set from n x) u 0 ≡ get_or from u 0
-      from_other u h = get_or-set_other from n u x 0 (λ e. omega arith)
+      other : (u : ℕ) → u < n → get_or (set roads n x) u no_road ≡ get_or roads u no_road
+      other u h = get_or-set_other roads n u x no_road (λ e. omega arith)
 
-      to_other : (u : ℕ) → u < n → get_or (set to n y) u 0 ≡ get_or to u 0
-      to_other u h = get_or-set_other to n u y 0 (λ e. omega arith)
-
-  twice_new : (b : RoadBlock) (n : ℕ) (xs : Numbers) → n < length b.from → n < length b.to → earlier b n xs ≡ true
-      → Twice (set b.from n xs.first) (set b.to n xs.second) (n + 1)
-  twice_new b n xs hf ht e =
+  twice_new : (b : RoadBlock) (n : ℕ) (xs : Numbers) → n < length b.roads → earlier b n xs ≡ true → Twice (set b.roads n (road_of xs)) (n + 1)
+  twice_new b n xs room e =
       let f = any_elim (on_line b xs) n e in
       let u = f.0 in
+      let h = get_or-set_other b.roads n u (road_of xs) no_road (λ z. omega (arith, f.1)) in
+      let k = get_or-set_same b.roads n (road_of xs) no_road room in
       record {
         one = u;
         other = n;
         apart = f.1;
         listed = omega arith;
-        same_from =
-            get_or-set_other b.from n u xs.first 0 (λ z. omega (arith, f.1))
-            ∙ eqb-true _ _ (and_left _ (eqb (get_or b.to u 0) xs.second) f.2)
-            ∙ sym (get_or-set_same b.from n xs.first 0 hf);
-        same_to =
-            get_or-set_other b.to n u xs.second 0 (λ z. omega (arith, f.1))
-            ∙ eqb-true _ _ (and_right (eqb (get_or b.from u 0) xs.first) _ f.2)
-            ∙ sym (get_or-set_same b.to n xs.second 0 ht);
+        same_from = rw (h, k) (eqb-true _ _ (and_left _ (eqb (get_or b.roads u no_road).to xs.second) f.2));
+        same_to = rw (h, k) (eqb-true _ _ (and_right (eqb (get_or b.roads u no_road).from xs.first) _ f.2));
       }
 
   -- two readings of n road lines, the later and the earlier one
   pub record Stopped (n : ℕ) (x y : RoadBlock) : Type 0 where
     pub at_double : AtDouble x.line
-    pub twice : Twice y.from y.to n
+    pub twice : Twice y.roads n
 
   abbrev Alike : Filling RoadBlock → Filling RoadBlock → Type 0
   Alike x y = (x ≡ y) ⊎ Stopped y.next x.block y.block
 
   record Roomy (n : ℕ) (y : Filling RoadBlock) : Type 0 where
-    pub from : length y.block.from ≡ 1024
-    pub to : length y.block.to ≡ 1024
+    pub long : length y.block.roads ≡ 1024
     pub left : y.next + n ≤ 1024
 
   step_narrowed : (bound n : ℕ) (x y : Filling RoadBlock) → Roomy (suc n) y → Alike x y → Alike (road_step s bound x) (step_before s bound y)
@@ -194,10 +179,10 @@ module _ (s : List ℕ) where
       by (inl d) = inl (rw (e, d))
       by (inr a) = inr (record {
         at_double = rw e a.at_double;
-        twice = twice_new y.block y.next (numbers_of (road_before s y.block.line road_key bound)) (omega (arith, room.from, room.left)) (omega (arith, room.to, room.left)) a.again_there;
+        twice = twice_new y.block y.next (numbers_of (road_before s y.block.line road_key bound)) (omega (arith, room.long, room.left)) a.again_there;
       })
   step_narrowed bound n x y room (inr p) =
-      inr (record { at_double = (stays s).road x.block.line road_key bound _ p.at_double; twice = twice_more _ _ _ _ _ p.twice })
+      inr (record { at_double = (stays s).road x.block.line road_key bound _ p.at_double; twice = twice_more _ _ _ p.twice })
 
   repeat_narrowed : (bound n : ℕ) (x y : Filling RoadBlock) → Roomy n y → Alike x y
       → ((repeat n (road_step s bound) x).block ≡ (repeat n (step_before s bound) y).block)
@@ -209,18 +194,17 @@ module _ (s : List ℕ) where
       let e : y.next + suc n ≡ y.next + 1 + n = omega arith in
       rw e (repeat_narrowed bound n (road_step s bound x) (step_before s bound y)
       (record {
-        from = length-set y.block.from y.next _ ∙ room.from;
-        to = length-set y.block.to y.next _ ∙ room.to;
+        long = length-set y.block.roads y.next _ ∙ room.long;
         left = omega (arith, room.left);
       })
       (step_narrowed bound n x y room a))
 
-  from_narrowed : (bound n : ℕ) (b : RoadBlock) → length b.from ≡ 1024 → length b.to ≡ 1024 → n ≤ 1024
+  from_narrowed : (bound n : ℕ) (b : RoadBlock) → length b.roads ≡ 1024 → n ≤ 1024
       → ((repeat n (road_step s bound) (record { next = 0; block = b })).block ≡ (repeat n (step_before s bound) (record { next = 0; block = b })).block)
       ⊎ Stopped n (repeat n (road_step s bound) (record { next = 0; block = b })).block (repeat n (step_before s bound) (record { next = 0; block = b })).block
-  from_narrowed bound n b hf ht h =
+  from_narrowed bound n b room h =
       let e : n ≡ 0 + n = omega arith in
-      subst (λ k. (x ≡ y) ⊎ Stopped k x y) (sym e) (repeat_narrowed bound n start start (record { from = hf; to = ht; left = omega arith }) (inl refl))
+      subst (λ k. (x ≡ y) ⊎ Stopped k x y) (sym e) (repeat_narrowed bound n start start (record { long = room; left = omega arith }) (inl refl))
     where
       start : Filling RoadBlock
       start = record { next = 0; block = b }
@@ -234,15 +218,15 @@ module _ (s : List ℕ) where
   pub roads_narrowed : (l : Line) (n bound : ℕ) → n ≤ 1024
       → (road_block s l n bound ≡ roads_before s l n bound) ⊎ Stopped n (road_block s l n bound) (roads_before s l n bound)
   unfolding road_block roads_before
-  roads_narrowed l n bound h = from_narrowed bound n _ (length-replicate {A = ℕ} 1024 0) (length-replicate {A = ℕ} 1024 0) h
+  roads_narrowed l n bound h = from_narrowed bound n _ (length-replicate {A = Road} 1024 no_road) h
 
   -- two roads of the map as it was are the same
   abbrev pub TwiceBefore : Type 0
-  TwiceBefore = Twice (map_before s).from (map_before s).to (map_before s).roads
+  TwiceBefore = Twice (map_before s).map.roads (map_before s).map.road_count
 
   pub map_narrowed : (map_of s ≡ map_before s) ⊎ (AtDouble (map_of s).line × TwiceBefore)
   unfolding map_of map_before
-  map_narrowed = by (roads_narrowed count (first_of count) (first_of places) (omega (arith, (one_is s start roads_key 0 1025 count refl).first_low)))
+  map_narrowed = by (roads_narrowed count (first_of count) (first_of places) (omega (arith, one_most s start roads_key 0 1025)))
     where
       marks : Line
       marks = line_of_one s (line_of_one s top tour_key 1 2) marks_key 0 9
@@ -274,7 +258,7 @@ module _ (s : List ℕ) where
           → (draft_of s ≡ draft_from s (map_before s)) ⊎ (AtDouble (draft_of s).line × TwiceBefore)
       by (inl e) = inl (ap (draft_from s) e)
       by (inr d) =
-          let bound = 2 ^ (map_of s).marks in
+          let bound = 2 ^ (map_of s).map.marks in
           let hard = hard_block s (map_of s).line bound in
           let count = line_of_one s hard.line rules_key 0 9 in
           inr (
@@ -286,10 +270,10 @@ module _ (s : List ℕ) where
 
 pub record Turned (s : List ℕ) : Type 0 where
   pub told : ℕ
-  pub refused : read_plan s ≡ refuse (refusal.Line (Doubled told))
+  pub refused : read_plan s ≡ Err (refusal.Line (Doubled told))
   pub twice : TwiceBefore s
 
-answer_double : (l : Line) (p : Plan) (d : AtDouble l) → answer l p ≡ refuse (refusal.Line (Doubled d.told))
+answer_double : (l : Line) (p : Plan) (d : AtDouble l) → answer l p ≡ Err (refusal.Line (Doubled d.told))
 unfolding answer
 answer_double l p d = rw d.fault
 
@@ -304,42 +288,32 @@ read_narrowed s = by (ltb 60000 (length s)) refl (draft_narrowed s)
     by false e (inr d) = inr (record { told = d.0.told; refused = rw e (answer_double (draft_of s).line (draft_of s).plan d.0); twice = d.1 })
 
 -- what is refused is no plan
-turned_no_plan : {s : List ℕ} → Turned s → (read_plan s).outcome ≡ outcome.Plan → ⊥
-turned_no_plan t e = let z : ◌≡◌ {A = ℕ} 0 1 = cc (sym e ∙ ap (λ (r : Reading). r.outcome) t.refused) in omega arith
+turned_no_plan : {s : List ℕ} → Turned s → (p : Plan) → read_plan s ≡ Ok p → ⊥
+turned_no_plan t p e = let z : ◌≡◌ {A = ℕ} 0 1 = cc (sym e ∙ t.refused) in omega arith
 
-pub passed_as_before : (s : List ℕ) → (read_plan s).outcome ≡ outcome.Plan → read_plan s ≡ read_before s
-passed_as_before s passed = by (read_narrowed s)
+pub passed_as_before : (s : List ℕ) (p : Plan) → read_plan s ≡ Ok p → read_plan s ≡ read_before s
+passed_as_before s p passed = by (read_narrowed s)
   where
     by : (read_plan s ≡ read_before s) ⊎ Turned s → read_plan s ≡ read_before s
     by (inl e) = e
-    by (inr t) = absurd (turned_no_plan t passed)
+    by (inr t) = absurd (turned_no_plan t p passed)
 
-module _ (s : List ℕ) (passed : (read_before s).outcome ≡ outcome.Plan) where
+module _ (s : List ℕ) (p : Plan) (before : read_before s ≡ Ok p) where
   -- the plan of a file that passed before has the roads that the map had
-  abbrev old : Draft
-  old = draft_from s (map_before s)
-
-  old_plan : (read_before s).plan ≡ old.plan
+  old_plan : (draft_from s (map_before s)).plan ≡ p
   unfolding read_before
-  old_plan = by (ltb 60000 (length s)) passed
-    where
-      by : (t : Bool) → (cond t (refuse refusal.PlanTooLong) (answer old.line old.plan)).outcome ≡ outcome.Plan
-          → (cond t (refuse refusal.PlanTooLong) (answer old.line old.plan)).plan ≡ old.plan
-      by true e = let z : ◌≡◌ {A = ℕ} 0 1 = cc in absurd (omega arith)
-      by false e = (answer_plan old.line old.plan e).same
+  old_plan = (answer_passed s (draft_from s (map_before s)) p before).same
 
-  pub single_as_before : Single (read_before s).plan.from (read_before s).plan.to (read_before s).plan.roads → read_plan s ≡ read_before s
+  pub single_as_before : Single p.roads p.road_count → read_plan s ≡ read_before s
   single_as_before single = by (read_narrowed s)
     where
       by : (read_plan s ≡ read_before s) ⊎ Turned s → read_plan s ≡ read_before s
       by (inl e) = e
-      by (inr t) = absurd (single_twice (subst (λ (p : Plan). Single p.from p.to p.roads) old_plan single) t.twice)
+      by (inr t) = absurd (single_twice (subst (λ (p : Plan). Single p.roads p.road_count) (sym old_plan) single) t.twice)
 
-  pub twice_turned : Twice (read_before s).plan.from (read_before s).plan.to (read_before s).plan.roads → Turned s
+  pub twice_turned : Twice p.roads p.road_count → Turned s
   twice_turned twice = by (read_narrowed s)
     where
       by : (read_plan s ≡ read_before s) ⊎ Turned s → Turned s
-      by (inl e) =
-          let now : (read_plan s).outcome ≡ outcome.Plan = ap (λ (r : Reading). r.outcome) e ∙ passed in
-          absurd (single_twice (subst (λ (r : Reading). Single r.plan.from r.plan.to r.plan.roads) e (read_single s now)) twice)
+      by (inl e) = absurd (single_twice (read_single s p (e ∙ before)) twice)
       by (inr t) = t

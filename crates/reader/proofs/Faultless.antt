@@ -1,6 +1,6 @@
 -- What was read without a fault is in its range. A line without a fault stands behind one without a fault and has its number in its
 -- range; so going back from the last line, every line of a block, of an automaton and of the map is in its range.
-use mathlib.Core.Path.{◌≡◌, refl, ◌∙◌}
+use mathlib.Core.Path.{◌≡◌, refl}
 use mathlib.Core.Bool.{true, false}
 use mathlib.Core.List.{List}
 use Prim.Native.Nat.{ℕ, ◌+◌, ◌^◌, ◌≤◌, ◌<◌}
@@ -8,28 +8,26 @@ use native.Mathlib.Omega.{arith}
 use native.Mathlib.Decide.{ℕ_discrete}
 use lib.ListN.{length, get_or, length-set}
 use lib.Seq.{get_or-set_same, get_or-set_other}
+use Rattle.std.specs.Prelude.{Ok, Err}
 use Rattle.automata.specs.WellFormed as automaton
 use Rattle.automata.specs.WellFormed.{ZeroFrom, no_automaton}
 use Rattle.automata.specs.declared.Automaton.{Automaton}
-use Rattle.text.specs.Line.{line_of_one, first_of, finish, good}
+use Rattle.text.specs.Line.{line_of_one, first_of, finish, good, Line}
 use Rattle.reader.specs.Line.{road_line, move_line}
 use Rattle.reader.specs.Keys.{first_key, accept_key, moves_key, hard_key, soft_key, weight_key}
-use Rattle.reader.specs.Blocks.{Filling, move_block, automaton_block, hard_block, weight_line, soft_block, soft_step, soft_blocks}
+use Rattle.reader.specs.Blocks.{SoftBlocks, Filling, move_block, automaton_block, hard_block, weight_line, soft_block, soft_step, soft_blocks}
 use Rattle.text.specs.declared.line.Numbers.{Numbers}
-use Rattle.text.specs.declared.line.Line.{Line}
-use Rattle.text.specs.declared.line.Line.TheVariants as line
-use Rattle.reader.specs.declared.block.SoftBlocks.{SoftBlocks}
 use Rattle.text.proofs.Lines.{within_both, Led, First, one_led}
 use Rattle.reader.proofs.Lines.{road_led, move_led}
 use Rattle.reader.proofs.Sticky.{Sticky, moves_keep, soft_keeps}
-use Rattle.reader.proofs.Columns.{filled, all_same, column_below, set_rest, zeros_rest, moves_filled}
+use Rattle.reader.proofs.Columns.{filled, all_same, below, unset, set_rest, zeros_rest, moves_filled}
 
 abbrev pub Faulty : Line → Type 0
 Faulty l = good l ≡ false
 
 led_faulty : (s : List ℕ) (Q : Numbers → Type 0) (l r : Line) → Led s Q l r → Faulty l → Faulty r
-led_faulty s Q l (line.Numbers xs c) g p = let z : ◌≡◌ {A = ℕ} 0 1 = cc in absurd (omega arith)
-led_faulty s Q l (line.Fault f) g p = refl
+led_faulty s Q l (Ok (xs, c)) g p = let z : ◌≡◌ {A = ℕ} 0 1 = cc in absurd (omega arith)
+led_faulty s Q l (Err f) g p = refl
 
 pub faulty : (s : List ℕ) → Sticky s Faulty
 faulty s = record {
@@ -40,13 +38,13 @@ faulty s = record {
 
 -- what keeps a fault has none only behind a line that has none
 pub was_good : (l r : Line) → (Faulty l → Faulty r) → good r ≡ true → good l ≡ true
-was_good (line.Numbers xs c) r h e = refl
-was_good (line.Fault f) r h e = let p : good r ≡ false = h refl in let z : ◌≡◌ {A = ℕ} 0 1 = cc in absurd (omega arith)
+was_good (Ok (xs, c)) r h e = refl
+was_good (Err f) r h e = let p : good r ≡ false = h refl in let z : ◌≡◌ {A = ℕ} 0 1 = cc in absurd (omega arith)
 
 pub finish_good : (s : List ℕ) (l : Line) → good (finish s l) ≡ true → good l ≡ true
 unfolding finish
-finish_good s (line.Fault f) e = e
-finish_good s (line.Numbers xs c) e = refl
+finish_good s (Err f) e = e
+finish_good s (Ok (xs, c)) e = refl
 
 pub record OneGood (low bound : ℕ) (l r : Line) : Type 0 where
   pub was : good l ≡ true
@@ -54,10 +52,10 @@ pub record OneGood (low bound : ℕ) (l r : Line) : Type 0 where
   pub below : first_of r < bound
 
 led_good : (s : List ℕ) (low bound : ℕ) (l r : Line) → Led s (First low bound) l r → good r ≡ true → OneGood low bound l r
-led_good s low bound l (line.Numbers xs c) g e =
+led_good s low bound l (Ok (xs, c)) g e =
     let h = within_both xs.first low bound g.1 in
     record { was = g.0; least = h.0; below = h.1 }
-led_good s low bound l (line.Fault f) g e = let z : ◌≡◌ {A = ℕ} 0 1 = cc in absurd (omega arith)
+led_good s low bound l (Err f) g e = let z : ◌≡◌ {A = ℕ} 0 1 = cc in absurd (omega arith)
 
 pub one_good : (s : List ℕ) (l : Line) (key : List ℕ) (low bound : ℕ) → good (line_of_one s l key low bound) ≡ true
     → OneGood low bound l (line_of_one s l key low bound)
@@ -97,16 +95,12 @@ module _ (s : List ℕ) (l : Line) (q labels : ℕ) (e : good (automaton_block s
         first = first_good.below;
         accept = accept_good.below;
         moves = omega (arith, count_good.below);
-        from = column_below q n _ o x.from;
-        need = column_below labels n _ m x.need;
-        bar = column_below labels n _ m x.bar;
-        any = column_below labels n _ m x.any;
-        to = column_below q n _ o x.to;
-        rest_from = x.from.rest;
-        rest_need = x.need.rest;
-        rest_bar = x.bar.rest;
-        rest_any = x.any.rest;
-        rest_to = x.to.rest;
+        from = below q o _ x.from;
+        need = below labels m _ x.need;
+        bar = below labels m _ x.bar;
+        any = below labels m _ x.any;
+        to = below q o _ x.to;
+        rest = x.rest;
       }
 
 pub record SoftRead (labels : ℕ) (a : Automaton) (w : ℕ) : Type 0 where
@@ -163,8 +157,7 @@ module _ (s : List ℕ) (labels : ℕ) (m : 1 ≤ labels) where
       weight_room = simp length-set p.weight_room;
       read = λ e k h b. soft_put e k h b (ℕ_discrete k x.next);
       rest = λ k h.
-          let d : k ≡ x.next → ⊥ = λ z. omega arith in
-          get_or-set_other x.block.soft x.next k (soft_block s x.block.line labels).automaton no_automaton d ∙ p.rest k (omega arith);
+          unset no_automaton x.block.soft x.next (soft_block s x.block.line labels).automaton p.rest k h;
       rest_weights = set_rest x.block.weights x.next _ p.rest_weights;
     }
 

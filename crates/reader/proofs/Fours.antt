@@ -2,7 +2,7 @@
 -- lines. Where the chain of four numbers is good, any is 0; where it is bad, so is that of five, and the line has a bad form either way.
 --   four_fits xs q labels            == the numbers of a line of four are in their ranges
 --   four_line, four_step, four_block   == `move_line`, `move_step` and `move_block`, with lines `key=q,need,bar,r` alone
---   five_at s at                     == the last number of the move line of five numbers at index `at` of s; Bad if none is there
+--   five_at s at                     == the last number of the move line of five numbers at index `at` of s; None if none is there
 --   NoFive s                        == nowhere in s stands a move line of five numbers
 --   line_as_before, block_as_before == then move lines, and blocks of them, are what they were
 --   Fours a, FourPlan p             == any is 0 throughout in the automaton a, in every automaton of the plan p
@@ -10,38 +10,33 @@
 --   fits_before a x q i              == move i of a leaves q, and the label x has every bit of its need and no bit of its bar
 --   AsBefore p                      == the automata of p have the fitting moves that they had: no number but these counts
 --   answered_as_before              == so it is in the plan that is read
-use mathlib.Core.Path.{◌≡◌, refl, ap, ◌∙◌}
-use mathlib.Core.Bool.{Bool, true, false, cond, ◌&&◌}
+use mathlib.Core.Path.{◌≡◌, refl, ap, subst, ◌∙◌}
+use mathlib.Core.Bool.{Bool, true, false, ◌&&◌}
 use mathlib.Core.List.{List}
 use Prim.Native.Nat.{ℕ, zero, suc, ◌+◌, ◌^◌}
 use native.Mathlib.Omega.{arith}
-use lib.ListN.{get_or, set, replicate, length}
+use lib.ListN.{get_or, set, replicate}
 use lib.Bits.{bit_and}
 use lib.Dec.{ltb, eqb}
 use borrow.Author.Tests.{ltb-true, lt-ltb}
-use Rattle.text.specs.Scan.{key_at, next_number, else_number, either, value_of}
-use Rattle.text.specs.declared.read.Number.{Number}
-use Rattle.text.specs.declared.read.Number.TheVariants.{Value, Bad}
-use Rattle.automata.specs.Automaton.{fits}
+use Rattle.std.specs.Prelude.{Some, None, Ok, Err}
+use Rattle.text.specs.Scan.{first_number, key_at, next_number, else_number, either, value_of, Number}
+use Rattle.automata.specs.Automaton.{no_move, move, fits}
 use Rattle.automata.specs.WellFormed.{no_automaton}
 use Rattle.automata.specs.declared.Automaton.{Automaton}
 use Rattle.automata.proofs.Either.{fits_none}
-use Rattle.plan.specs.WellFormed.{soft, no_plan}
+use Rattle.plan.specs.WellFormed.{soft}
 use Rattle.plan.specs.declared.Plan.{Plan}
-use Rattle.plan.specs.declared.Refusal.TheVariants.{PlanTooLong}
 use Rattle.reader.specs.Keys.{move_key, first_key, accept_key, moves_key}
-use Rattle.text.specs.Line.{behind, judged, closed, line_of_one, numbers_of, first_of}
+use Rattle.text.specs.Line.{behind, judged, closed, line_of_one, numbers_of, first_of, Line}
 use Rattle.reader.specs.Line.{move_fits, move_line}
-use Rattle.reader.specs.Blocks.{repeat, Filling, move_step, move_block, automaton_block, hard_block, soft_block, soft_step, soft_blocks}
-use Rattle.reader.specs.Reading.{draft_of, refuse, answer, read_plan}
+use Rattle.reader.specs.Blocks.{MoveBlock, SoftBlocks, repeat, Filling, move_of, move_step, move_block, automaton_block, hard_block, soft_block, soft_step, soft_blocks}
+use Rattle.reader.specs.Reading.{draft_of, read_plan}
 use Rattle.text.specs.declared.line.Numbers.{Numbers}
-use Rattle.text.specs.declared.line.Line.{Line}
-use Rattle.text.specs.declared.line.Line.TheVariants as line
-use Rattle.reader.specs.declared.block.MoveBlock.{MoveBlock}
-use Rattle.reader.specs.declared.block.SoftBlocks.{SoftBlocks}
 use Rattle.reader.proofs.Lines.{numbers}
-use Rattle.reader.proofs.Sticky.{repeat_keeps}
+use Rattle.reader.proofs.Filling.{repeat_keeps}
 use Rattle.reader.proofs.Columns.{all_set, all_same}
+use Rattle.reader.proofs.WellRead.{passed}
 
 -- reading as it was
 abbrev pub four_fits : Numbers → ℕ → ℕ → Bool
@@ -51,7 +46,7 @@ unfoldable pub four_line : List ℕ → Line → List ℕ → ℕ → ℕ → Li
 four_line s prior key q labels =
     behind prior
     (λ at.
-    let a = next_number s (key_at s at key) 44 in
+    let a = first_number s (key_at s at key) 44 in
     let b = next_number s a 44 in
     let c = next_number s b 44 in
     let d = next_number s c 10 in
@@ -61,34 +56,21 @@ four_line s prior key q labels =
 abbrev pub four_step : List ℕ → ℕ → ℕ → Filling MoveBlock → Filling MoveBlock
 four_step s q labels x =
     let l = four_line s x.block.line move_key q labels in
-    let xs = numbers_of l in
-    record {
-      next = x.next + 1;
-      block = record {
-        line = l;
-        from = set x.block.from x.next xs.first;
-        need = set x.block.need x.next xs.second;
-        bar = set x.block.bar x.next xs.third;
-        any = set x.block.any x.next xs.fourth;
-        to = set x.block.to x.next xs.fifth;
-      };
-    }
+    record { next = x.next + 1; block = record { line = l; moves = set x.block.moves x.next (move_of (numbers_of l)) } }
 
 unfoldable pub four_block : List ℕ → Line → ℕ → ℕ → ℕ → MoveBlock
 four_block s prior n q labels =
-    let zeros : List ℕ = replicate 64 0 in
-    (repeat n (four_step s q labels)
-    (record { next = 0; block = record { line = prior; from = zeros; need = zeros; bar = zeros; any = zeros; to = zeros } })).block
+    (repeat n (four_step s q labels) (record { next = 0; block = record { line = prior; moves = replicate 64 no_move } })).block
 
 abbrev pub five_at : List ℕ → ℕ → Number
 five_at s at =
-    let a = next_number s (key_at s at move_key) 44 in
+    let a = first_number s (key_at s at move_key) 44 in
     let b = next_number s a 44 in
     let c = next_number s b 44 in
     next_number s (next_number s c 44) 10
 
 pub record NoFive (s : List ℕ) : Type 0 where
-  pub none : (at : ℕ) → five_at s at ≡ Bad
+  pub none : (at : ℕ) → five_at s at ≡ None
 
 -- 0 is in the range of any, if need is
 zero_fits : (y labels : ℕ) → ltb y labels ≡ true → ltb 0 labels ≡ true
@@ -108,20 +90,20 @@ repeat_same f g h (suc n) x = repeat_same f g h n (f x) ∙ ap (repeat n g) (h x
 
 module _ (s : List ℕ) (no_five : NoFive s) (q labels : ℕ) where
   -- a line is the same by d, its number behind c, or by any and the last one there
-  ends_alike : (at x y z : ℕ) (c d : Number) → next_number s (next_number s c 44) 10 ≡ Bad
+  ends_alike : (at x y z : ℕ) (c d : Number) → next_number s (next_number s c 44) 10 ≡ None
       → (let any = else_number s d c 44 in let last = either d (next_number s any 10) in let xs = numbers x y z (value_of any) (value_of last) in
       closed s at last (move_fits xs q labels) xs)
       ≡ (let xs = numbers x y z 0 (value_of d) in closed s at d (four_fits xs q labels) xs)
-  ends_alike at x y z c (Value v i) h =
+  ends_alike at x y z c (Some (v, i)) h =
       ap (λ t. judged s at i t (numbers x y z 0 v))
       (tests_same (ltb x q) (ltb y labels) (ltb z labels) (ltb 0 labels) (ltb v q) (zero_fits y labels))
-  ends_alike at x y z c Bad h = rw h
+  ends_alike at x y z c None h = rw h
 
   pub line_as_before : (l : Line) → move_line s l move_key q labels ≡ four_line s l move_key q labels
   unfolding move_line four_line
-  line_as_before (line.Fault f) = refl
-  line_as_before (line.Numbers xs c) =
-      let a = next_number s (key_at s c.at move_key) 44 in let b = next_number s a 44 in let z = next_number s b 44 in
+  line_as_before (Err f) = refl
+  line_as_before (Ok (xs, c)) =
+      let a = first_number s (key_at s c.at move_key) 44 in let b = next_number s a 44 in let z = next_number s b 44 in
       ends_alike c.at (value_of a) (value_of b) (value_of z) z (next_number s z 10) (no_five.none c.at)
 
   step_as_before : (x : Filling MoveBlock) → move_step s q labels x ≡ four_step s q labels x
@@ -138,41 +120,38 @@ module _ (s : List ℕ) (no_five : NoFive s) (q labels : ℕ) where
 
   closed_zero : (at x y z : ℕ) (d : Number)
       → (numbers_of (let xs = numbers x y z 0 (value_of d) in closed s at d (four_fits xs q labels) xs)).fourth ≡ 0
-  closed_zero at x y z Bad = refl
-  closed_zero at x y z (Value v i) = judged_zero at i (four_fits (numbers x y z 0 v) q labels) x y z v
+  closed_zero at x y z None = refl
+  closed_zero at x y z (Some (v, i)) = judged_zero at i (four_fits (numbers x y z 0 v) q labels) x y z v
 
   four_zero : (l : Line) → (numbers_of (four_line s l move_key q labels)).fourth ≡ 0
   unfolding four_line
-  four_zero (line.Fault f) = refl
-  four_zero (line.Numbers xs c) =
-      let a = next_number s (key_at s c.at move_key) 44 in let b = next_number s a 44 in let z = next_number s b 44 in
+  four_zero (Err f) = refl
+  four_zero (Ok (xs, c)) =
+      let a = first_number s (key_at s c.at move_key) 44 in let b = next_number s a 44 in let z = next_number s b 44 in
       closed_zero c.at (value_of a) (value_of b) (value_of z) (next_number s z 10)
 
   move_zero : (l : Line) → (numbers_of (move_line s l move_key q labels)).fourth ≡ 0
   move_zero l = ap (λ x. (numbers_of x).fourth) (line_as_before l) ∙ four_zero l
 
-  pub block_fours : (l : Line) (n i : ℕ) → get_or (move_block s l n q labels).any i 0 ≡ 0
+  pub block_fours : (l : Line) (n i : ℕ) → (get_or (move_block s l n q labels).moves i no_move).any ≡ 0
   unfolding move_block
   block_fours l n =
-      repeat_keeps (λ (x : Filling MoveBlock). (i : ℕ) → get_or x.block.any i 0 ≡ 0) (move_step s q labels)
-      (λ x h. all_set (λ y. y ≡ 0) 0 x.block.any x.next _ h (move_zero x.block.line))
-      n _ (all_same (λ y. y ≡ 0) 0 refl 64)
+      repeat_keeps (λ (x : Filling MoveBlock). (i : ℕ) → (get_or x.block.moves i no_move).any ≡ 0) (move_step s q labels)
+      (λ x h. all_set (λ y. y.any ≡ 0) no_move x.block.moves x.next _ h (move_zero x.block.line))
+      n _ (all_same (λ y. y.any ≡ 0) no_move refl 64)
 
 pub record Fours (a : Automaton) : Type 0 where
-  pub none : (i : ℕ) → get_or a.any i 0 ≡ 0
+  pub none : (i : ℕ) → (move a i).any ≡ 0
 
 pub record FourPlan (p : Plan) : Type 0 where
   pub hard : Fours p.hard
   pub softs : (k : ℕ) → Fours (soft p k)
 
 no_automaton_fours : Fours no_automaton
-no_automaton_fours = record { none = all_same (λ y. y ≡ 0) 0 refl 64 }
+no_automaton_fours = record { none = all_same (λ y. y.any ≡ 0) no_move refl 64 }
 
 no_softs_fours : (k : ℕ) → Fours (get_or (replicate 8 no_automaton) k no_automaton)
 no_softs_fours = all_same Fours no_automaton no_automaton_fours 8
-
-no_plan_fours : FourPlan no_plan
-no_plan_fours = record { hard = no_automaton_fours; softs = no_softs_fours }
 
 module _ (s : List ℕ) (no_five : NoFive s) where
   automaton_fours : (l : Line) (q labels : ℕ) → Fours (automaton_block s l q labels).automaton
@@ -200,29 +179,19 @@ module _ (s : List ℕ) (no_five : NoFive s) where
   unfolding draft_of
   draft_fours = record { hard = hard_fours _ _; softs = softs_fours _ _ _ }
 
-  answer_fours : (l : Line) (p : Plan) → FourPlan p → FourPlan (answer l p).plan
-  unfolding answer
-  answer_fours (line.Fault f) p h = no_plan_fours
-  answer_fours (line.Numbers xs c) p h = h
-
-  pub read_fours : FourPlan (read_plan s).plan
-  unfolding read_plan
-  read_fours = by_test (ltb 60000 (length s))
-    where
-      by_test : (t : Bool) → FourPlan (cond t (refuse PlanTooLong) (answer (draft_of s).line (draft_of s).plan)).plan
-      by_test true = no_plan_fours
-      by_test false = answer_fours (draft_of s).line (draft_of s).plan draft_fours
+  pub read_fours : (p : Plan) → read_plan s ≡ Ok p → FourPlan p
+  read_fours p e = subst FourPlan (passed s p e).same draft_fours
 
 abbrev pub fits_before : Automaton → ℕ → ℕ → ℕ → Bool
 fits_before a x q i =
-    let need = get_or a.need i 0 in
-    eqb (get_or a.from i 0) q && (eqb (bit_and x need) need && eqb (bit_and x (get_or a.bar i 0)) 0)
+    let m = move a i in
+    eqb m.from q && (eqb (bit_and x m.need) m.need && eqb (bit_and x m.bar) 0)
 
 pub record AsBefore (p : Plan) : Type 0 where
   pub hard : (x q i : ℕ) → fits p.hard x q i ≡ fits_before p.hard x q i
   pub softs : (k x q i : ℕ) → fits (soft p k) x q i ≡ fits_before (soft p k) x q i
 
-pub answered_as_before : (s : List ℕ) → NoFive s → AsBefore (read_plan s).plan
-answered_as_before s no_five =
-    let p = (read_plan s).plan in let f = read_fours s no_five in
+pub answered_as_before : (s : List ℕ) → NoFive s → (p : Plan) → read_plan s ≡ Ok p → AsBefore p
+answered_as_before s no_five p e =
+    let f = read_fours s no_five p e in
     record { hard = fits_none p.hard f.hard.none; softs = λ k. fits_none (soft p k) (f.softs k).none }

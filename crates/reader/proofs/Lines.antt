@@ -1,32 +1,33 @@
 -- What the lines of a plan file that hold more than one number come to; the laws of any line stand in `text/proofs/Lines`.
 --   road_held, move_held    == a line of good form is judged by held values as by the exact ones
---   road_fault, road_bad, road_good, .. == what each kind of line is: by the line before it, and by its last number
+--   two_none, two_one, two_both, five_none, .. == the numbers of a line, one behind the other
+--   road_bad, move_bad      == each kind of line has a bad form where its last number has
+--   road_good               == a road line of good form is judged by its held values
+--   road_none, road_some, move_none, move_good == what each kind of line is, by its numbers as the code knows them
 --   road_doubled, road_passed, road_ranged == the three ends of a road line of good form
 --   fits_both               == where the numbers of a road line fit, both are below the bound
 --   byte                    == a number below a bound of at most 256 fits a byte
 --   road_led, move_led      == what each kind of line leads to: numbers in their ranges
---   road_low, road_is, road_faulty, move_is == so each kind of line is read as promised, its numbers below their bounds
-use mathlib.Core.Path.{◌≡◌, refl, sym, subst, ◌∙◌}
+--   road_low, move_low      == so the numbers of each are below their bounds
+--   road_is, road_faulty, move_is == and each is read as promised
+use mathlib.Core.Path.{◌≡◌, refl, sym, ap, subst, ◌∙◌}
 use mathlib.Core.Bool.{Bool, true, false, ◌&&◌}
 use mathlib.Core.List.{List}
 use Prim.Native.Nat.{ℕ, ◌-◌, ◌≤◌, ◌<◌, min}
 use native.Mathlib.Omega.{arith}
 use lib.Dec.{ltb}
 use borrow.Author.Tests.{ltb-true}
+use Rattle.std.specs.Prelude.{Option, Some, None, Ok, Err}
 use Rattle.base.proofs.Tests.{and_left, and_right}
-use Rattle.text.specs.Scan.{key_at, next_number, else_number, either, value_of, line_at}
-use Rattle.text.specs.Line.{pair, bad_form, judged, closed, numbers_of}
+use Rattle.text.specs.Scan.{Number, key_at, number_at, first_number, next_number, else_number, either, value_of, line_at}
+use Rattle.text.specs.Line.{Line, pair, bad_form, judged, closed, numbers_of}
 use Rattle.text.specs.declared.fault.Fault.{Fault}
 use Rattle.text.specs.declared.fault.Fault.TheVariants.{Range, Doubled}
-use Rattle.text.specs.declared.read.Number.{Number}
-use Rattle.text.specs.declared.read.Number.TheVariants.{Bad}
 use Rattle.text.specs.declared.line.Numbers.{Numbers}
 use Rattle.text.specs.declared.line.Cursor.{Cursor}
-use Rattle.text.specs.declared.line.Line.{Line}
-use Rattle.text.specs.declared.line.Line.TheVariants as line
 use Rattle.text.proofs.Held.{Told}
 use Rattle.text.proofs.Lines.{same_below, judged_same, before, here, Led, closed_led, low}
-use Rattle.reader.specs.Line.{road_fits, once, road_line, move_fits, move_line, noting_line, RoadRead, MoveRead}
+use Rattle.reader.specs.Line.{road_fits, once, road_from, road_line, move_fits, move_from, move_line, all_of, two_numbers, five_numbers, noting_line, RoadRead, MoveRead}
 
 abbrev pub numbers : ℕ → ℕ → ℕ → ℕ → ℕ → Numbers
 numbers a b c d e = record { first = a; second = b; third = c; fourth = d; fifth = e }
@@ -73,33 +74,63 @@ module _ (s : List ℕ) (at next : ℕ) where
       let f = move_tests (numbers v w t u b) q labels m in
       rw (s1.passed f.0, s2.passed f.1, s3.passed f.2, s4.passed f.3, s5.passed f.4))
 
--- a line that stands behind one with a fault
-module _ (s : List ℕ) (l : Line) (key : List ℕ) (f : Fault) (p : l ≡ line.Fault f) where
-  pub road_fault : (bound : ℕ) (again : Numbers → Bool) → l ≡ road_line s l key bound again
-  unfolding road_line
-  road_fault bound again = rw p
+-- the numbers of a line, one behind the other
+module _ (s : List ℕ) (at : ℕ) (key : List ℕ) where
+  abbrev first : Number
+  first = first_number s (key_at s at key) 44
 
-  pub move_fault : (q labels : ℕ) → l ≡ move_line s l key q labels
-  unfolding move_line
-  move_fault q labels = rw p
+  pub two_none : first ≡ None → None ≡ two_numbers s at key
+  two_none e = rw e
+
+  pub five_none : first ≡ None → None ≡ five_numbers s at key
+  five_none e = rw e
+
+  module _ (x i : ℕ) (a : Told first x i) where
+    pub two_one : number_at s i 10 ≡ None → None ≡ two_numbers s at key
+    two_one e = rw (a.is, e)
+
+    pub two_both : (y n : ℕ) → Told (number_at s i 10) y n → Some (pair x y, n) ≡ two_numbers s at key
+    two_both y n b = rw (a.is, b.is, a.held, b.held)
+
+    pub five_one : number_at s i 44 ≡ None → None ≡ five_numbers s at key
+    five_one e = rw (a.is, e)
+
+    module _ (y j : ℕ) (b : Told (number_at s i 44) y j) where
+      pub five_two : number_at s j 44 ≡ None → None ≡ five_numbers s at key
+      five_two e = rw (a.is, b.is, e)
+
+      module _ (z k : ℕ) (d : Told (number_at s j 44) z k) where
+        pub five_four : (o n : ℕ) → Told (number_at s k 10) o n → Some (numbers x y z 0 o, n) ≡ five_numbers s at key
+        five_four o n e = rw (a.is, b.is, d.is, e.is, a.held, b.held, d.held, e.held)
+
+        module _ (no : number_at s k 10 ≡ None) where
+          pub five_three : number_at s k 44 ≡ None → None ≡ five_numbers s at key
+          five_three e = rw (a.is, b.is, d.is, no, e)
+
+          module _ (u m : ℕ) (g : Told (number_at s k 44) u m) where
+            pub five_any : number_at s m 10 ≡ None → None ≡ five_numbers s at key
+            five_any e = rw (a.is, b.is, d.is, no, g.is, e)
+
+            pub five_all : (o n : ℕ) → Told (number_at s m 10) o n → Some (numbers x y z u o, n) ≡ five_numbers s at key
+            five_all o n e = rw (a.is, b.is, d.is, no, g.is, e.is, a.held, b.held, d.held, g.held, e.held)
 
 -- a line that stands behind one without a fault
-module _ (s : List ℕ) (l : Line) (key : List ℕ) (xs : Numbers) (c : Cursor) (p : l ≡ line.Numbers xs c) where
-  abbrev first : ℕ → Number
-  first e = next_number s (key_at s c.at key) e
+module _ (s : List ℕ) (l : Line) (key : List ℕ) (xs : Numbers) (c : Cursor) (p : l ≡ Ok (xs, c)) where
+  abbrev front : Number
+  front = first_number s (key_at s c.at key) 44
 
-  pub road_bad : (bound : ℕ) (again : Numbers → Bool) → next_number s (first 44) 10 ≡ Bad → bad_form s c.at ≡ road_line s l key bound again
+  pub road_bad : (bound : ℕ) (again : Numbers → Bool) → next_number s front 10 ≡ None → Err (bad_form s c.at) ≡ road_line s l key bound again
   unfolding road_line
   road_bad bound again e = rw (p, e)
 
-  pub road_good : (bound : ℕ) (again : Numbers → Bool) (x y n : ℕ) (ys : Numbers) → bound ≤ 4000000000 → x ≡ min (value_of (first 44)) 4000000000
-      → Told (next_number s (first 44) 10) y n → ys ≡ pair x y → road s c.at n (again ys) (road_fits ys bound) ys ≡ road_line s l key bound again
+  pub road_good : (bound : ℕ) (again : Numbers → Bool) (x y n : ℕ) (ys : Numbers) → bound ≤ 4000000000 → x ≡ min (value_of front) 4000000000
+      → Told (next_number s front 10) y n → ys ≡ pair x y → road s c.at n (again ys) (road_fits ys bound) ys ≡ road_line s l key bound again
   unfolding road_line
   road_good bound again x y n ys h a b e = rw e (road_held s c.at n again _ _ x y bound a b.held h ∙ rw (p, b.is))
 
   -- the numbers of a move: the third, the one behind it where that is not the last, and the last
   abbrev third : Number
-  third = next_number s (next_number s (first 44) 44) 44
+  third = next_number s (next_number s front 44) 44
 
   abbrev any : Number
   any = else_number s (next_number s third 10) third 44
@@ -107,29 +138,83 @@ module _ (s : List ℕ) (l : Line) (key : List ℕ) (xs : Numbers) (c : Cursor) 
   abbrev last : Number
   last = either (next_number s third 10) (next_number s any 10)
 
-  pub move_bad : (q labels : ℕ) → last ≡ Bad → bad_form s c.at ≡ move_line s l key q labels
+  pub move_bad : (q labels : ℕ) → last ≡ None → Err (bad_form s c.at) ≡ move_line s l key q labels
   unfolding move_line
   move_bad q labels e = rw (p, e)
 
-  pub move_good : (q labels x y z a o n : ℕ) → q ≤ 4000000000 → labels ≤ 4000000000 → x ≡ min (value_of (first 44)) 4000000000
-      → y ≡ min (value_of (next_number s (first 44) 44)) 4000000000 → z ≡ min (value_of third) 4000000000
-      → a ≡ min (value_of any) 4000000000 → Told last o n
-      → judged s c.at n (move_fits (numbers x y z a o) q labels) (numbers x y z a o) ≡ move_line s l key q labels
-  unfolding move_line
-  move_good q labels x y z a o n h g e1 e2 e3 e4 e5 =
-      move_held s c.at n _ _ _ _ _ x y z a o q labels e1 e2 e3 e4 e5.held h g ∙ rw (p, e5.is)
+-- a line, by its numbers as the code knows them
+module _ (s : List ℕ) (at : ℕ) (key : List ℕ) where
+  abbrev index_in : Option (Numbers × ℕ) → ℕ
+  index_in None = 0
+  index_in (Some (xs, i)) = i
+
+  abbrev numbers_in : Option (Numbers × ℕ) → Numbers
+  numbers_in None = pair 0 0
+  numbers_in (Some (xs, i)) = xs
+
+  -- the number in front of the last of a road line
+  abbrev x : ℕ
+  x = value_of (first_number s (key_at s at key) 44)
+
+  module _ (bound : ℕ) (again : Numbers → Bool) where
+    pub road_none : two_numbers s at key ≡ None → Err (bad_form s at) ≡ road_from s at key bound again
+    road_none = by (next_number s (first_number s (key_at s at key) 44) 10)
+      where
+        by : (b : Number) → all_of b (pair x (value_of b)) ≡ None
+            → ◌≡◌ {A = Line} (Err (bad_form s at))
+            (once s at (again (pair x (value_of b))) (closed s at b (road_fits (pair x (value_of b)) bound) (pair x (value_of b))))
+        by None e = refl
+        by (Some (w, i)) e = let z : ◌≡◌ {A = ℕ} 0 1 = cc in absurd (omega arith)
+
+    pub road_some : (ys : Numbers) (n : ℕ) → two_numbers s at key ≡ Some (ys, n) → bound ≤ 4000000000
+        → road s at n (again ys) (road_fits ys bound) ys ≡ road_from s at key bound again
+    road_some ys n e h = by (next_number s (first_number s (key_at s at key) 44) 10) e
+      where
+        by : (b : Number) → all_of b (pair x (value_of b)) ≡ Some (ys, n)
+            → road s at n (again ys) (road_fits ys bound) ys
+            ≡ once s at (again (pair x (value_of b))) (closed s at b (road_fits (pair x (value_of b)) bound) (pair x (value_of b)))
+        by None e = let z : ◌≡◌ {A = ℕ} 0 1 = cc in absurd (omega arith)
+        by (Some (w, i)) e =
+            let p : pair (min x 4000000000) (min w 4000000000) ≡ ys = ap numbers_in e in
+            let q : i ≡ n = ap index_in e in
+            rw (← p, ← q) (road_held s at i again x w _ _ bound refl refl h)
+
+  module _ (q labels : ℕ) where
+    -- the numbers in front of the last
+    module _ (x y z u : ℕ) where
+      abbrev line_by : Number → Line
+      line_by b = closed s at b (move_fits (numbers x y z u (value_of b)) q labels) (numbers x y z u (value_of b))
+
+      pub by_none : (b : Number) → all_of b (numbers x y z u (value_of b)) ≡ None → Err (bad_form s at) ≡ line_by b
+      by_none None e = refl
+      by_none (Some (w, i)) e = let z : ◌≡◌ {A = ℕ} 0 1 = cc in absurd (omega arith)
+
+      pub by_some : (b : Number) (ys : Numbers) (n : ℕ) → all_of b (numbers x y z u (value_of b)) ≡ Some (ys, n) → q ≤ 4000000000 → labels ≤ 4000000000
+          → judged s at n (move_fits ys q labels) ys ≡ line_by b
+      by_some None ys n e h k = let z : ◌≡◌ {A = ℕ} 0 1 = cc in absurd (omega arith)
+      by_some (Some (w, i)) ys n e h k =
+          let p : numbers (min x 4000000000) (min y 4000000000) (min z 4000000000) (min u 4000000000) (min w 4000000000) ≡ ys = ap numbers_in e in
+          let o : i ≡ n = ap index_in e in
+          rw (← p, ← o) (move_held s at i x y z u w _ _ _ _ _ q labels refl refl refl refl refl h k)
+
+    pub move_none : five_numbers s at key ≡ None → Err (bad_form s at) ≡ move_from s at key q labels
+    move_none e = by_none _ _ _ _ _ e
+
+    pub move_good : (ys : Numbers) (n : ℕ) → five_numbers s at key ≡ Some (ys, n) → q ≤ 4000000000 → labels ≤ 4000000000
+        → judged s at n (move_fits ys q labels) ys ≡ move_from s at key q labels
+    move_good ys n e h k = by_some _ _ _ _ _ ys n e h k
 
 -- the three ends of a road line of good form
 module _ (s : List ℕ) (at next : ℕ) (xs : Numbers) (bound : ℕ) (again : Numbers → Bool) where
   pub road_doubled : (k : ℕ) → k ≡ line_at s at → road_fits xs bound ≡ true → again xs ≡ true
-      → line.Fault (Doubled k) ≡ road s at next (again xs) (road_fits xs bound) xs
+      → Err (Doubled k) ≡ road s at next (again xs) (road_fits xs bound) xs
   road_doubled k e f g = rw (e, f, g)
 
   pub road_passed : road_fits xs bound ≡ true → again xs ≡ false
-      → line.Numbers xs (record { at = next }) ≡ road s at next (again xs) (road_fits xs bound) xs
+      → Ok (xs, record { at = next }) ≡ road s at next (again xs) (road_fits xs bound) xs
   road_passed f g = rw (f, g)
 
-  pub road_ranged : (k : ℕ) → k ≡ line_at s at → road_fits xs bound ≡ false → line.Fault (Range k) ≡ road s at next (again xs) (road_fits xs bound) xs
+  pub road_ranged : (k : ℕ) → k ≡ line_at s at → road_fits xs bound ≡ false → Err (Range k) ≡ road s at next (again xs) (road_fits xs bound) xs
   road_ranged k e f = rw (e, f)
 
 pub fits_both : (xs : Numbers) (bound : ℕ) → road_fits xs bound ≡ true → (xs.first < bound) × (xs.second < bound)
@@ -143,26 +228,26 @@ Move q labels xs = move_fits xs q labels ≡ true
 
 module _ (s : List ℕ) where
   once_led : (Q : Numbers → Type 0) (l : Line) (at : ℕ) (again : Bool) (r : Line) → Led s Q l r → Led s Q l (once s at again r)
-  once_led Q l at again (line.Fault f) g = g
-  once_led Q l at true (line.Numbers xs c) g = here at refl
-  once_led Q l at false (line.Numbers xs c) g = g
+  once_led Q l at again (Err f) g = g
+  once_led Q l at true (Ok (xs, c)) g = here at refl
+  once_led Q l at false (Ok (xs, c)) g = g
 
   pub road_led : (l : Line) (key : List ℕ) (bound : ℕ) (again : Numbers → Bool) → Led s (Road bound) l (road_line s l key bound again)
   unfolding road_line
-  road_led (line.Fault f) key bound again = before refl
-  road_led (line.Numbers xs c) key bound again =
-      let a = next_number s (key_at s c.at key) 44 in let b = next_number s a 10 in
+  road_led (Err f) key bound again = before refl
+  road_led (Ok (xs, c)) key bound again =
+      let a = first_number s (key_at s c.at key) 44 in let b = next_number s a 10 in
       let ys = pair (value_of a) (value_of b) in
-      once_led (Road bound) (line.Numbers xs c) c.at (again ys) (closed s c.at b (road_fits ys bound) ys)
-      (closed_led s (Road bound) (line.Numbers xs c) refl c.at b (road_fits ys bound) ys (λ e. e))
+      once_led (Road bound) (Ok (xs, c)) c.at (again ys) (closed s c.at b (road_fits ys bound) ys)
+      (closed_led s (Road bound) (Ok (xs, c)) refl c.at b (road_fits ys bound) ys (λ e. e))
 
   pub move_led : (l : Line) (key : List ℕ) (q labels : ℕ) → Led s (Move q labels) l (move_line s l key q labels)
   unfolding move_line
-  move_led (line.Fault f) key q labels = before refl
-  move_led (line.Numbers xs c) key q labels =
-      let a = next_number s (key_at s c.at key) 44 in
+  move_led (Err f) key q labels = before refl
+  move_led (Ok (xs, c)) key q labels =
+      let a = first_number s (key_at s c.at key) 44 in
       let z = next_number s (next_number s a 44) 44 in let d = next_number s z 10 in
-      closed_led s (Move q labels) (line.Numbers xs c) refl c.at (either d (next_number s (else_number s d z 44) 10)) _ _ (λ e. e)
+      closed_led s (Move q labels) (Ok (xs, c)) refl c.at (either d (next_number s (else_number s d z 44) 10)) _ _ (λ e. e)
 
 module _ (s : List ℕ) (l : Line) (key : List ℕ) where
   pub road_low : (bound : ℕ) (again : Numbers → Bool) (r : Line) → r ≡ road_line s l key bound again
@@ -173,19 +258,8 @@ module _ (s : List ℕ) (l : Line) (key : List ℕ) where
         low s (Road bound) l (λ xs. xs.second) bound refl (λ xs h. (fits_both xs bound h).1) r led,
       )
 
-  pub road_is : (bound : ℕ) (again : Numbers → Bool) (pairs pairs' : List ℕ) (r : Line) → r ≡ road_line s l key bound again
-      → pairs' ≡ noting_line pairs r → RoadRead (road_line s l key bound again) bound pairs r pairs'
-  road_is bound again pairs pairs' r e h =
-      let low = road_low bound again r e in
-      record { same = e; first_low = low.0; second_low = low.1; noted = h }
-
-  -- a line that has a fault leaves what is noted
-  pub road_faulty : (bound : ℕ) (again : Numbers → Bool) (pairs pairs' : List ℕ) (r : Line) (f : Fault) → r ≡ line.Fault f → r ≡ road_line s l key bound again → pairs' ≡ pairs
-      → RoadRead (road_line s l key bound again) bound pairs r pairs'
-  road_faulty bound again pairs pairs' r f k e same = road_is bound again pairs pairs' r e (same ∙ rw k)
-
-  pub move_is : (q labels : ℕ) (r : Line) → r ≡ move_line s l key q labels → MoveRead (move_line s l key q labels) q labels r
-  move_is q labels r e =
+  pub move_low : (q labels : ℕ) (r : Line) → r ≡ move_line s l key q labels → MoveRead (move_line s l key q labels) q labels r
+  move_low q labels r e =
       let led = subst (λ x. Led s (Move q labels) l x) (sym e) (move_led s l key q labels) in
       record {
         same = e;
@@ -195,6 +269,27 @@ module _ (s : List ℕ) (l : Line) (key : List ℕ) where
         fourth_low = low s (Move q labels) l (λ xs. xs.fourth) labels refl (λ xs h. ltb-true _ labels (move_tests xs q labels h).3) r led;
         fifth_low = low s (Move q labels) l (λ xs. xs.fifth) q refl (λ xs h. ltb-true _ q (move_tests xs q labels h).4) r led;
       }
+
+module _ (s : List ℕ) (at : ℕ) (key : List ℕ) where
+  -- before a line at this index
+  abbrev before_it : Line
+  before_it = Ok (pair 0 0, record { at = at })
+
+  pub road_is : (bound : ℕ) (again : Numbers → Bool) (pairs pairs' : List ℕ) (r : Line) → r ≡ road_from s at key bound again
+      → pairs' ≡ noting_line pairs r → RoadRead (road_from s at key bound again) bound pairs r pairs'
+  unfolding road_line
+  road_is bound again pairs pairs' r e h =
+      let low = road_low s before_it key bound again r e in
+      record { same = e; first_low = low.0; second_low = low.1; noted = h }
+
+  -- a line that has a fault leaves what is noted
+  pub road_faulty : (bound : ℕ) (again : Numbers → Bool) (pairs pairs' : List ℕ) (r : Line) (f : Fault) → r ≡ Err f → r ≡ road_from s at key bound again → pairs' ≡ pairs
+      → RoadRead (road_from s at key bound again) bound pairs r pairs'
+  road_faulty bound again pairs pairs' r f k e same = road_is bound again pairs pairs' r e (same ∙ rw k)
+
+  pub move_is : (q labels : ℕ) (r : Line) → r ≡ move_from s at key q labels → MoveRead (move_from s at key q labels) q labels r
+  unfolding move_line
+  move_is q labels r e = move_low s before_it key q labels r e
 
 pub byte : (f : Numbers → ℕ) (xs ys : Numbers) (bound : ℕ) → xs ≡ ys → f ys ≤ bound - 1 → bound ≤ 256 → f xs < 256
 byte f xs ys bound e h b = rw e (omega arith)

@@ -1,41 +1,66 @@
--- What every line keeps of the line before it, every block keeps, by induction on its count: that there is a fault, and that a
--- fault's line is at least 1 and at most one above the text's length.
+-- What every line keeps of the line before it, every block keeps, by induction on its count, and the map and the whole file, from each of their
+-- lines on (`tour_line_keeps`, ..): that there is a fault, which fault it is (`faults`), and that a fault's line is at least 1 and at most one
+-- above the text's length (`draft_placed`).
+use mathlib.Core.Path.{◌≡◌}
 use mathlib.Core.Bool.{Bool, true, false, cond}
 use mathlib.Core.List.{List}
-use Prim.Native.Nat.{ℕ, zero, suc, ◌+◌, ◌^◌, ◌≤◌}
+use Prim.Native.Nat.{ℕ, ◌+◌, ◌^◌, ◌≤◌}
 use lib.ListN.{length}
 use lib.Dec.{ltb}
+use Rattle.std.specs.Prelude.{Ok, Err}
 use Rattle.text.specs.Scan.{line_at}
 use Rattle.text.specs.Fault as fault
-use Rattle.text.specs.Line.{line_of_one, first_of, top, finish}
+use Rattle.text.specs.Line.{line_of_one, first_of, top, finish, Line}
 use Rattle.reader.specs.Line.{road_line, move_line}
 use Rattle.reader.specs.Keys.{tour_key, marks_key, places_key, start_key, roads_key, first_key, accept_key, moves_key, hard_key, rules_key, soft_key, weight_key}
-use Rattle.reader.specs.Blocks.{repeat, Filling, label_step, label_block, road_step, road_block, move_step, move_block, automaton_block, hard_block, weight_line, soft_block, soft_step, soft_blocks}
+use Rattle.reader.specs.Blocks.{LabelBlock, RoadBlock, MoveBlock, SoftBlocks, Filling, label_step, label_block, road_step, road_block, move_step, move_block, automaton_block, hard_block, weight_line, soft_block, soft_step, soft_blocks}
 use Rattle.reader.specs.Map.{map_of}
 use Rattle.reader.specs.Reading.{draft_of}
+use Rattle.text.specs.declared.fault.Fault.{Fault}
 use Rattle.text.specs.declared.fault.Fault.TheVariants.{Form}
 use Rattle.text.specs.declared.line.Numbers.{Numbers}
-use Rattle.text.specs.declared.line.Line.{Line}
-use Rattle.text.specs.declared.line.Line.TheVariants as line
-use Rattle.reader.specs.declared.block.LabelBlock.{LabelBlock}
-use Rattle.reader.specs.declared.block.RoadBlock.{RoadBlock}
-use Rattle.reader.specs.declared.block.MoveBlock.{MoveBlock}
-use Rattle.reader.specs.declared.block.SoftBlocks.{SoftBlocks}
 use Rattle.text.proofs.Newlines.{line_least, line_most}
 use Rattle.text.proofs.Lines.{before, here, Led, one_led}
 use Rattle.reader.proofs.Lines.{road_led, move_led}
-
--- what f keeps, repeating f keeps
-pub repeat_keeps : {S : Type 0} (P : S → Type 0) (f : S → S) → ((x : S) → P x → P (f x)) → (n : ℕ) (x : S) → P x → P (repeat n f x)
-unfolding repeat
-repeat_keeps P f h zero x p = p
-repeat_keeps P f h (suc n) x p = repeat_keeps P f h n (f x) (h x p)
+use Rattle.reader.proofs.Filling.{repeat_keeps}
 
 -- P is kept by a line of every kind
 pub record Sticky (s : List ℕ) (P : Line → Type 0) : Type 0 where
   pub one : (l : Line) (key : List ℕ) (low bound : ℕ) → P l → P (line_of_one s l key low bound)
   pub road : (l : Line) (key : List ℕ) (bound : ℕ) (again : Numbers → Bool) → P l → P (road_line s l key bound again)
   pub move : (l : Line) (key : List ℕ) (q labels : ℕ) → P l → P (move_line s l key q labels)
+
+-- the lines of a plan file between its blocks, and the last lines of these
+module _ (s : List ℕ) where
+  abbrev pub tour_line : Line
+  tour_line = line_of_one s top tour_key 1 2
+
+  abbrev pub marks_line : Line
+  marks_line = line_of_one s tour_line marks_key 0 9
+
+  abbrev pub places_line : Line
+  places_line = line_of_one s marks_line places_key 1 129
+
+  abbrev pub labels_line : Line
+  labels_line = (label_block s places_line (first_of places_line) (2 ^ first_of marks_line)).line
+
+  abbrev pub start_line : Line
+  start_line = line_of_one s labels_line start_key 0 (first_of places_line)
+
+  abbrev pub roads_line : Line
+  roads_line = line_of_one s start_line roads_key 0 1025
+
+  abbrev pub bound : ℕ
+  bound = 2 ^ (map_of s).map.marks
+
+  abbrev pub hard_end : Line
+  hard_end = (hard_block s (map_of s).line bound).line
+
+  abbrev pub rules_line : Line
+  rules_line = line_of_one s hard_end rules_key 0 9
+
+  abbrev pub softs_end : Line
+  softs_end = (soft_blocks s rules_line (first_of rules_line) bound).line
 
 module _ (s : List ℕ) (P : Line → Type 0) (k : Sticky s P) where
   pub labels_keep : (l : Line) (n bound : ℕ) → P l → P (label_block s l n bound).line
@@ -50,38 +75,105 @@ module _ (s : List ℕ) (P : Line → Type 0) (k : Sticky s P) where
   unfolding move_block
   moves_keep l n q labels = repeat_keeps (λ (x : Filling MoveBlock). P x.block.line) (move_step s q labels) (λ x. k.move x.block.line _ q labels) n _
 
-  pub automaton_keeps : (l : Line) (q labels : ℕ) → P l → P (automaton_block s l q labels).line
-  unfolding automaton_block
-  automaton_keeps l q labels p =
-      let first = line_of_one s l first_key 0 q in
-      let accept = line_of_one s first accept_key 0 (2 ^ q) in
-      let count = line_of_one s accept moves_key 0 65 in
-      moves_keep count (first_of count) q labels (k.one accept moves_key 0 65 (k.one first accept_key 0 (2 ^ q) (k.one l first_key 0 q p)))
+  -- an automaton, from each of its lines on
+  module _ (l : Line) (q labels : ℕ) where
+    abbrev first_line : Line
+    first_line = line_of_one s l first_key 0 q
+
+    abbrev accept_line : Line
+    accept_line = line_of_one s first_line accept_key 0 (2 ^ q)
+
+    abbrev moves_line : Line
+    moves_line = line_of_one s accept_line moves_key 0 65
+
+    pub moves_line_keeps : P moves_line → P (automaton_block s l q labels).line
+    unfolding automaton_block
+    moves_line_keeps p = moves_keep moves_line (first_of moves_line) q labels p
+
+    pub accept_line_keeps : P accept_line → P (automaton_block s l q labels).line
+    accept_line_keeps p = moves_line_keeps (k.one accept_line moves_key 0 65 p)
+
+    pub first_line_keeps : P first_line → P (automaton_block s l q labels).line
+    first_line_keeps p = accept_line_keeps (k.one first_line accept_key 0 (2 ^ q) p)
+
+    pub automaton_keeps : P l → P (automaton_block s l q labels).line
+    automaton_keeps p = first_line_keeps (k.one l first_key 0 q p)
+
+  pub hard_line_keeps : (l : Line) (labels : ℕ) → P (line_of_one s l hard_key 1 17) → P (hard_block s l labels).line
+  unfolding hard_block
+  hard_line_keeps l labels p = automaton_keeps (line_of_one s l hard_key 1 17) _ labels p
 
   pub hard_keeps : (l : Line) (labels : ℕ) → P l → P (hard_block s l labels).line
-  unfolding hard_block
-  hard_keeps l labels p = automaton_keeps (line_of_one s l hard_key 1 17) _ labels (k.one l hard_key 1 17 p)
+  hard_keeps l labels p = hard_line_keeps l labels (k.one l hard_key 1 17 p)
+
+  pub weight_line_keeps : (l : Line) (labels : ℕ) → P (weight_line s (line_of_one s l soft_key 1 9)) → P (soft_block s l labels).line
+  unfolding soft_block
+  weight_line_keeps l labels p = automaton_keeps (weight_line s (line_of_one s l soft_key 1 9)) _ labels p
+
+  pub soft_line_keeps : (l : Line) (labels : ℕ) → P (line_of_one s l soft_key 1 9) → P (soft_block s l labels).line
+  soft_line_keeps l labels p = weight_line_keeps l labels (k.one (line_of_one s l soft_key 1 9) weight_key _ _ p)
 
   pub soft_keeps : (l : Line) (labels : ℕ) → P l → P (soft_block s l labels).line
-  unfolding soft_block
-  soft_keeps l labels p =
-      let states = line_of_one s l soft_key 1 9 in
-      automaton_keeps (weight_line s states) _ labels (k.one states weight_key _ _ (k.one l soft_key 1 9 p))
+  soft_keeps l labels p = soft_line_keeps l labels (k.one l soft_key 1 9 p)
 
   pub softs_keep : (l : Line) (n labels : ℕ) → P l → P (soft_blocks s l n labels).line
   unfolding soft_blocks
   softs_keep l n labels = repeat_keeps (λ (x : Filling SoftBlocks). P x.block.line) (soft_step s labels) (λ x. soft_keeps x.block.line labels) n _
 
+  -- the map, from each of its lines on
+  pub roads_line_keeps : P (roads_line s) → P (map_of s).line
+  unfolding map_of
+  roads_line_keeps p = roads_keep (roads_line s) (first_of (roads_line s)) (first_of (places_line s)) p
+
+  pub start_line_keeps : P (start_line s) → P (map_of s).line
+  start_line_keeps p = roads_line_keeps (k.one (start_line s) roads_key 0 1025 p)
+
+  pub labels_line_keeps : P (labels_line s) → P (map_of s).line
+  labels_line_keeps p = start_line_keeps (k.one (labels_line s) start_key 0 (first_of (places_line s)) p)
+
+  pub places_line_keeps : P (places_line s) → P (map_of s).line
+  places_line_keeps p = labels_line_keeps (labels_keep (places_line s) (first_of (places_line s)) (2 ^ first_of (marks_line s)) p)
+
+  pub marks_line_keeps : P (marks_line s) → P (map_of s).line
+  marks_line_keeps p = places_line_keeps (k.one (marks_line s) places_key 1 129 p)
+
+  pub tour_line_keeps : P (tour_line s) → P (map_of s).line
+  tour_line_keeps p = marks_line_keeps (k.one (tour_line s) marks_key 0 9 p)
+
+  -- the whole file, from the map on
+  module _ (ends : (l : Line) → P l → P (finish s l)) where
+    pub softs_end_keeps : P (softs_end s) → P (draft_of s).line
+    unfolding draft_of
+    softs_end_keeps p = ends (softs_end s) p
+
+    pub rules_line_keeps : P (rules_line s) → P (draft_of s).line
+    rules_line_keeps p = softs_end_keeps (softs_keep (rules_line s) (first_of (rules_line s)) (bound s) p)
+
+    pub hard_end_keeps : P (hard_end s) → P (draft_of s).line
+    hard_end_keeps p = rules_line_keeps (k.one (hard_end s) rules_key 0 9 p)
+
+    pub map_keeps : P (map_of s).line → P (draft_of s).line
+    map_keeps p = hard_end_keeps (hard_keeps (map_of s).line (bound s) p)
+
+-- a fault stays the same
+pub faults : (s : List ℕ) (f : Fault) → Sticky s (λ l. l ≡ Err f)
+unfolding line_of_one road_line move_line
+faults s f = record { one = λ l key low bound e. rw e; road = λ l key bound again e. rw e; move = λ l key q labels e. rw e }
+
+pub finish_fault : (s : List ℕ) (f : Fault) (l : Line) → l ≡ Err f → finish s l ≡ Err f
+unfolding finish
+finish_fault s f l e = rw e
+
 -- a fault, where there is one, is of a line of s, or of the line behind them
 abbrev pub Placed : List ℕ → Line → Type 0
-Placed s (line.Numbers xs c) = Unit {0}
-Placed s (line.Fault f) = (1 ≤ fault.line_of f) × (fault.line_of f ≤ length s + 1)
+Placed s (Ok (xs, c)) = Unit {0}
+Placed s (Err f) = (1 ≤ fault.line_of f) × (fault.line_of f ≤ length s + 1)
 
 module _ (s : List ℕ) where
   led_placed : (Q : Numbers → Type 0) (l r : Line) → Led s Q l r → Placed s l → Placed s r
-  led_placed Q l (line.Numbers xs c) g p = tt
-  led_placed Q l (line.Fault f) (before e) p = rw e at p
-  led_placed Q l (line.Fault f) (here at e) p = rw e (line_least s at, line_most s at)
+  led_placed Q l (Ok (xs, c)) g p = tt
+  led_placed Q l (Err f) (before e) p = rw e at p
+  led_placed Q l (Err f) (here at e) p = rw e (line_least s at, line_most s at)
 
   placed : Sticky s (Placed s)
   placed = record {
@@ -92,34 +184,13 @@ module _ (s : List ℕ) where
 
   finish_placed : (l : Line) → Placed s l → Placed s (finish s l)
   unfolding finish
-  finish_placed (line.Fault f) p = p
-  finish_placed (line.Numbers xs c) p = by_test (ltb c.at (length s))
+  finish_placed (Err f) p = p
+  finish_placed (Ok (xs, c)) p = by_test (ltb c.at (length s))
     where
-      by_test : (t : Bool) → Placed s (cond t (line.Fault (Form (line_at s c.at))) (line.Numbers xs c))
+      by_test : (t : Bool) → Placed s (cond t (Err (Form (line_at s c.at))) (Ok (xs, c)))
       by_test true = (line_least s c.at, line_most s c.at)
       by_test false = tt
 
-  map_placed : Placed s (map_of s).line
-  unfolding map_of
-  map_placed =
-      let tour = line_of_one s top tour_key 1 2 in
-      let marks = line_of_one s tour marks_key 0 9 in
-      let places = line_of_one s marks places_key 1 129 in
-      let labels = label_block s places (first_of places) (2 ^ first_of marks) in
-      let start = line_of_one s labels.line start_key 0 (first_of places) in
-      let count = line_of_one s start roads_key 0 1025 in
-      roads_keep s (Placed s) placed count (first_of count) (first_of places)
-      (placed.one start roads_key 0 1025
-      (placed.one labels.line start_key 0 (first_of places)
-      (labels_keep s (Placed s) placed places (first_of places) (2 ^ first_of marks)
-      (placed.one marks places_key 1 129 (placed.one tour marks_key 0 9 (placed.one top tour_key 1 2 tt))))))
-
   pub draft_placed : Placed s (draft_of s).line
-  unfolding draft_of
   draft_placed =
-      let bound = 2 ^ (map_of s).marks in
-      let hard = hard_block s (map_of s).line bound in
-      let count = line_of_one s hard.line rules_key 0 9 in
-      finish_placed (soft_blocks s count (first_of count) bound).line
-      (softs_keep s (Placed s) placed count (first_of count) bound
-      (placed.one hard.line rules_key 0 9 (hard_keeps s (Placed s) placed (map_of s).line bound map_placed)))
+      map_keeps s (Placed s) placed finish_placed (tour_line_keeps s (Placed s) placed (placed.one top tour_key 1 2 tt))

@@ -2,7 +2,7 @@
 -- range of a line `weight=0`.
 --   weight_before, soft_before, step_before, softs_before, draft_before, read_before
 --                       == `weight_line`, `soft_block`, `soft_step`, `soft_blocks`, `draft_of` and `read_plan`, with weights of at least 1
---   weight_at s at       == the number of the weight line at index `at` of s; Bad if none is there
+--   weight_at s at       == the number of the weight line at index `at` of s; None if none is there
 --   Zero s l            == l is the range fault of a line `weight=0` of s
 --   line_narrowed, soft_narrowed, softs_narrowed, draft_narrowed
 --                       == lines, blocks and the whole draft are what they were, or their fault was such a one
@@ -20,27 +20,20 @@ use native.Mathlib.Omega.{arith}
 use lib.ListN.{set, replicate, length}
 use lib.Dec.{ltb}
 use borrow.Author.Tests.{le-ltb}
-use Rattle.text.specs.Scan.{key_at, next_number, value_of, line_at}
+use Rattle.std.specs.Prelude.{Result, Some, None, Ok, Err}
+use Rattle.text.specs.Scan.{first_number, key_at, value_of, line_at, Number}
 use Rattle.text.specs.declared.fault.Fault.{Fault}
 use Rattle.text.specs.declared.fault.Fault.TheVariants.{Range}
-use Rattle.text.specs.declared.read.Number.{Number}
-use Rattle.text.specs.declared.read.Number.TheVariants.{Value, Bad}
-use Rattle.text.specs.Line.{pair, judged, closed, within, line_of_one, first_of, finish}
-use Rattle.text.specs.declared.line.Line.{Line}
-use Rattle.text.specs.declared.line.Line.TheVariants as line
+use Rattle.text.specs.Line.{pair, judged, closed, within, line_of_one, first_of, finish, Line}
 use Rattle.automata.specs.WellFormed.{no_automaton}
 use Rattle.plan.specs.declared.Plan.{Plan}
 use Rattle.plan.specs.declared.Refusal.TheVariants as refusal
+use Rattle.plan.specs.declared.Refusal.{Refusal}
 use Rattle.reader.specs.Keys.{soft_key, weight_key, rules_key}
 use Rattle.reader.specs.Line.{road_line, move_line}
-use Rattle.reader.specs.Blocks.{repeat, Filling, automaton_block, hard_block, weight_line, soft_block, soft_step, soft_blocks}
+use Rattle.reader.specs.Blocks.{SoftBlock, SoftBlocks, repeat, Filling, automaton_block, hard_block, weight_line, soft_block, soft_step, soft_blocks}
 use Rattle.reader.specs.Map.{map_of}
-use Rattle.reader.specs.Reading.{draft_of, refuse, answer, answer_to, read_plan}
-use Rattle.reader.specs.declared.block.SoftBlock.{SoftBlock}
-use Rattle.reader.specs.declared.block.SoftBlocks.{SoftBlocks}
-use Rattle.reader.specs.declared.Draft.{Draft}
-use Rattle.reader.specs.declared.Outcome.TheVariants as outcome
-use Rattle.reader.specs.declared.Reading.{Reading}
+use Rattle.reader.specs.Reading.{Draft, draft_of, answer, answer_to, read_plan}
 use Rattle.reader.proofs.Sticky.{Sticky, automaton_keeps}
 
 -- reading as it was
@@ -74,42 +67,41 @@ softs_before s prior n labels =
 unfoldable pub draft_before : List ℕ → Draft
 draft_before s =
     let m = map_of s in
-    let bound = 2 ^ m.marks in
+    let bound = 2 ^ m.map.marks in
     let h = hard_block s m.line bound in
     let count = line_of_one s h.line rules_key 0 9 in
     let x = softs_before s count (first_of count) bound in
     record {
       line = finish s x.line;
       plan = record {
-        marks = m.marks;
-        places = m.places;
-        start = m.start;
-        roads = m.roads;
+        marks = m.map.marks;
+        places = m.map.places;
+        start = m.map.start;
+        road_count = m.map.road_count;
         rules = first_of count;
-        labels = m.labels;
-        from = m.from;
-        to = m.to;
+        labels = m.map.labels;
+        roads = m.map.roads;
         hard = h.automaton;
         soft = x.soft;
         weights = x.weights;
       };
     }
 
-unfoldable pub read_before : List ℕ → Reading
+unfoldable pub read_before : List ℕ → Result Plan Refusal
 read_before s = answer_to s (draft_before s)
 
 abbrev pub weight_at : List ℕ → ℕ → Number
-weight_at s at = next_number s (key_at s at weight_key) 10
+weight_at s at = first_number s (key_at s at weight_key) 10
 
 pub record Zero (s : List ℕ) (l : Line) : Type 0 where
   pub index : ℕ
   pub next : ℕ
-  pub written : weight_at s index ≡ Value 0 next
-  pub fault : l ≡ line.Fault (Range (line_at s index))
+  pub written : weight_at s index ≡ Some (0, next)
+  pub fault : l ≡ Err (Range (line_at s index))
 
 module _ (s : List ℕ) where
   -- a number from 1 on is in range as it was
-  judged_alike : (at v i : ℕ) → weight_at s at ≡ Value v i
+  judged_alike : (at v i : ℕ) → weight_at s at ≡ Some (v, i)
       → (judged s at i (within v 0 4000001) (pair v 0) ≡ judged s at i (within v 1 4000001) (pair v 0))
       ⊎ Zero s (judged s at i (within v 1 4000001) (pair v 0))
   unfolding within
@@ -119,16 +111,16 @@ module _ (s : List ℕ) where
   closed_alike : (at : ℕ) (a : Number) → weight_at s at ≡ a
       → (closed s at a (within (value_of a) 0 4000001) (pair (value_of a) 0) ≡ closed s at a (within (value_of a) 1 4000001) (pair (value_of a) 0))
       ⊎ Zero s (closed s at a (within (value_of a) 1 4000001) (pair (value_of a) 0))
-  closed_alike at Bad e = inl refl
-  closed_alike at (Value v i) e = judged_alike at v i e
+  closed_alike at None e = inl refl
+  closed_alike at (Some (v, i)) e = judged_alike at v i e
 
   pub line_narrowed : (l : Line) → (weight_line s l ≡ weight_before s l) ⊎ Zero s (weight_before s l)
   unfolding line_of_one
-  line_narrowed (line.Fault f) = inl refl
-  line_narrowed (line.Numbers xs c) = closed_alike c.at (weight_at s c.at) refl
+  line_narrowed (Err f) = inl refl
+  line_narrowed (Ok (xs, c)) = closed_alike c.at (weight_at s c.at) refl
 
   -- such a fault stays
-  behind_zero : {l r : Line} → Zero s l → ((f : Fault) → l ≡ line.Fault f → r ≡ line.Fault f) → Zero s r
+  behind_zero : {l r : Line} → Zero s l → ((f : Fault) → l ≡ Err f → r ≡ Err f) → Zero s r
   behind_zero z h = record { index = z.index; next = z.next; written = z.written; fault = h _ z.fault }
 
   stays : Sticky s (Zero s)
@@ -192,7 +184,7 @@ module _ (s : List ℕ) where
   draft_narrowed = by (softs_narrowed count (first_of count) bound)
     where
       bound : ℕ
-      bound = 2 ^ (map_of s).marks
+      bound = 2 ^ (map_of s).map.marks
 
       count : Line
       count = line_of_one s (hard_block s (map_of s).line bound).line rules_key 0 9
@@ -202,11 +194,11 @@ module _ (s : List ℕ) where
       by (inl e) = inl (rw e)
       by (inr z) = inr (finish_zero (softs_before s count (first_of count) bound).line z)
 
-pub record Turned (s : List ℕ) (r : Reading) : Type 0 where
+pub record Turned (s : List ℕ) (r : Result Plan Refusal) : Type 0 where
   pub index : ℕ
   pub next : ℕ
-  pub written : weight_at s index ≡ Value 0 next
-  pub told : r ≡ refuse (refusal.Line (Range (line_at s index)))
+  pub written : weight_at s index ≡ Some (0, next)
+  pub told : r ≡ Err (refusal.Line (Range (line_at s index)))
 
 answer_turned : (s : List ℕ) (l : Line) (p : Plan) → Zero s l → Turned s (answer l p)
 unfolding answer
@@ -217,15 +209,15 @@ unfolding read_plan read_before
 read_narrowed s = by (ltb 60000 (length s)) (draft_narrowed s)
   where
     by : (t : Bool) → (draft_of s ≡ draft_before s) ⊎ Zero s (draft_before s).line
-        → (cond t (refuse refusal.PlanTooLong) (answer (draft_of s).line (draft_of s).plan)
-        ≡ cond t (refuse refusal.PlanTooLong) (answer (draft_before s).line (draft_before s).plan))
-        ⊎ Turned s (cond t (refuse refusal.PlanTooLong) (answer (draft_before s).line (draft_before s).plan))
+        → (cond t (Err refusal.PlanTooLong) (answer (draft_of s).line (draft_of s).plan)
+        ≡ cond t (Err refusal.PlanTooLong) (answer (draft_before s).line (draft_before s).plan))
+        ⊎ Turned s (cond t (Err refusal.PlanTooLong) (answer (draft_before s).line (draft_before s).plan))
     by true d = inl refl
     by false (inl e) = inl (rw e)
     by false (inr z) = inr (answer_turned s (draft_before s).line (draft_before s).plan z)
 
 pub record NoZero (s : List ℕ) : Type 0 where
-  pub none : (at next : ℕ) → weight_at s at ≡ Value 0 next → ⊥
+  pub none : (at next : ℕ) → weight_at s at ≡ Some (0, next) → ⊥
 
 pub read_as_before : (s : List ℕ) → NoZero s → read_plan s ≡ read_before s
 read_as_before s no_zero = by (read_narrowed s)
@@ -234,9 +226,9 @@ read_as_before s no_zero = by (read_narrowed s)
     by (inl e) = e
     by (inr t) = absurd (no_zero.none t.index t.next t.written)
 
-pub passed_as_before : (s : List ℕ) → (read_before s).outcome ≡ outcome.Plan → read_plan s ≡ read_before s
-passed_as_before s passed = by (read_narrowed s)
+pub passed_as_before : (s : List ℕ) (p : Plan) → read_before s ≡ Ok p → read_plan s ≡ read_before s
+passed_as_before s p passed = by (read_narrowed s)
   where
     by : (read_plan s ≡ read_before s) ⊎ Turned s (read_before s) → read_plan s ≡ read_before s
     by (inl e) = e
-    by (inr t) = let z : ◌≡◌ {A = ℕ} 0 1 = cc (sym passed ∙ ap (λ (r : Reading). r.outcome) t.told) in absurd (omega arith)
+    by (inr t) = let z : ◌≡◌ {A = ℕ} 0 1 = cc (sym passed ∙ t.told) in absurd (omega arith)

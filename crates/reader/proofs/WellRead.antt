@@ -8,23 +8,18 @@ use native.Mathlib.Omega.{arith}
 use native.Mathlib.Nat.{one-le-pow}
 use lib.ListN.{length}
 use lib.Dec.{ltb}
+use Rattle.std.specs.Prelude.{Result, Ok, Err}
 use Rattle.plan.specs.WellFormed.{WellFormed}
 use Rattle.plan.specs.declared.Plan.{Plan}
 use Rattle.plan.specs.declared.Refusal.TheVariants.{PlanTooLong}
+use Rattle.plan.specs.declared.Refusal.{Refusal}
 use Rattle.reader.specs.Keys.{tour_key, marks_key, places_key, start_key, roads_key, rules_key}
-use Rattle.text.specs.Line.{line_of_one, first_of, top, good}
-use Rattle.reader.specs.Blocks.{label_block, road_block, hard_block, soft_blocks}
+use Rattle.text.specs.Line.{line_of_one, first_of, top, good, Line}
+use Rattle.reader.specs.Blocks.{LabelBlock, AutomatonBlock, SoftBlocks, label_block, road_block, hard_block, soft_blocks}
 use Rattle.reader.specs.Map.{map_of}
-use Rattle.reader.specs.Reading.{draft_of, refuse, answer, read_plan}
-use Rattle.text.specs.declared.line.Line.{Line}
-use Rattle.text.specs.declared.line.Line.TheVariants as line
-use Rattle.reader.specs.declared.block.LabelBlock.{LabelBlock}
-use Rattle.reader.specs.declared.block.AutomatonBlock.{AutomatonBlock}
-use Rattle.reader.specs.declared.block.SoftBlocks.{SoftBlocks}
-use Rattle.reader.specs.declared.Reading.{Reading}
-use Rattle.reader.specs.declared.Outcome.TheVariants as outcome
+use Rattle.reader.specs.Reading.{Draft, draft_of, answer, answer_to, read_plan}
 use Rattle.reader.proofs.Sticky.{labels_keep, roads_keep, hard_keeps, softs_keep}
-use Rattle.reader.proofs.Columns.{column_below, labels_filled, roads_filled}
+use Rattle.reader.proofs.Columns.{below, column_below, labels_filled, roads_filled}
 use Rattle.reader.proofs.Faultless.{Faulty, faulty, was_good, finish_good, OneGood, one_good, hard_read, softs_read}
 
 -- the lines of the map
@@ -65,7 +60,7 @@ module _ (s : List ℕ) (e : good (map_of s).line ≡ true) where
 -- the whole file
 module _ (s : List ℕ) (e : good (draft_of s).line ≡ true) where
   abbrev bound : ℕ
-  bound = 2 ^ (map_of s).marks
+  bound = 2 ^ (map_of s).map.marks
 
   abbrev hard-block : AutomatonBlock
   hard-block = hard_block s (map_of s).line bound
@@ -77,7 +72,7 @@ module _ (s : List ℕ) (e : good (draft_of s).line ≡ true) where
   soft_part = soft_blocks s rules_line (first_of rules_line) bound
 
   bound_some : 1 ≤ bound
-  bound_some = one-le-pow (map_of s).marks 2 (omega arith)
+  bound_some = one-le-pow (map_of s).map.marks 2 (omega arith)
 
   softs_good : good soft_part.line ≡ true
   unfolding draft_of
@@ -109,44 +104,48 @@ module _ (s : List ℕ) (e : good (draft_of s).line ≡ true) where
         roads = omega (arith, (roads_good s g).below);
         rules = few;
         labels = column_below _ n _ bound_some labels;
-        from = column_below n _ _ p.least roads.from;
-        to = column_below n _ _ p.least roads.to;
+        from = below n p.least _ roads.from;
+        to = below n p.least _ roads.to;
         hard = hard_read s (map_of s).line bound bound_some rules_good.was;
         softs = λ i h. (softs.read softs_good i h (omega arith)).well;
         heavy = λ i h. (softs.read softs_good i h (omega arith)).heavy;
         rest_labels = labels.rest;
-        rest_from = roads.from.rest;
-        rest_to = roads.to.rest;
+        rest_roads = roads.rest;
         rest_softs = softs.rest;
         rest_weights = softs.rest_weights;
       }
 
 -- a plan is the answer only where nothing turns it away
-pub record Passed (l : Line) (p given : Plan) : Type 0 where
-  pub no_fault : good l ≡ true
-  pub same : given ≡ p
+pub record Passed (d : Draft) (p : Plan) : Type 0 where
+  pub no_fault : good d.line ≡ true
+  pub same : d.plan ≡ p
 
-pub answer_plan : (l : Line) (p : Plan) → (answer l p).outcome ≡ outcome.Plan → Passed l p (answer l p).plan
+-- the plan of an answer, q of a refusal
+abbrev plan_in : Plan → Result Plan Refusal → Plan
+plan_in q (Ok p) = p
+plan_in q (Err x) = q
+
+pub answer_plan : (l : Line) (q p : Plan) → answer l q ≡ Ok p → Passed (record { line = l; plan = q }) p
 unfolding answer
-answer_plan (line.Fault f) p e = let z : ◌≡◌ {A = ℕ} 0 1 = cc in absurd (omega arith)
-answer_plan (line.Numbers xs c) p e = record { no_fault = refl; same = refl }
+answer_plan (Err f) q p e = let z : ◌≡◌ {A = ℕ} 0 1 = cc in absurd (omega arith)
+answer_plan (Ok (xs, c)) q p e = record { no_fault = refl; same = ap (plan_in q) e }
 
-module _ (s : List ℕ) (e : (read_plan s).outcome ≡ outcome.Plan) where
-  pub passed : Passed (draft_of s).line (draft_of s).plan (read_plan s).plan
+-- whatever the lines come to
+pub answer_passed : (s : List ℕ) (d : Draft) (p : Plan) → answer_to s d ≡ Ok p → Passed d p
+answer_passed s d p e = by_test (ltb 60000 (length s)) e
+  where
+    by_test : (t : Bool) → cond t (Err PlanTooLong) (answer d.line d.plan) ≡ Ok p → Passed d p
+    by_test true e = let z : ◌≡◌ {A = ℕ} 0 1 = cc in absurd (omega arith)
+    by_test false e = answer_plan d.line d.plan p e
+
+module _ (s : List ℕ) (p : Plan) (e : read_plan s ≡ Ok p) where
+  pub passed : Passed (draft_of s) p
   unfolding read_plan
-  passed = by_test (ltb 60000 (length s)) e
-    where
-      by_test : (t : Bool)
-          → (cond t (refuse PlanTooLong) (answer (draft_of s).line (draft_of s).plan)).outcome ≡ outcome.Plan
-          → Passed (draft_of s).line (draft_of s).plan (cond t (refuse PlanTooLong) (answer (draft_of s).line (draft_of s).plan)).plan
-      by_test true e = let z : ◌≡◌ {A = ℕ} 0 1 = cc in absurd (omega arith)
-      by_test false e = answer_plan (draft_of s).line (draft_of s).plan e
+  passed = answer_passed s (draft_of s) p e
 
-  pub read_well : WellFormed (read_plan s).plan
-  read_well = rw passed.same (draft_well s passed.no_fault)
+  pub read_well : WellFormed p
+  read_well = subst WellFormed passed.same (draft_well s passed.no_fault)
 
 -- the same of what the reader answered
-pub read_ok : (s : List ℕ) (r : Reading) → r ≡ read_plan s → r.outcome ≡ outcome.Plan → WellFormed r.plan
-read_ok s r same e =
-    let o : (read_plan s).outcome ≡ outcome.Plan = ap (λ x. x.outcome) (sym same) ∙ e in
-    subst (λ x. WellFormed x.plan) (sym same) (read_well s o)
+pub read_ok : (s : List ℕ) (r : Result Plan Refusal) → r ≡ read_plan s → (p : Plan) → r ≡ Ok p → WellFormed p
+read_ok s r same p e = read_well s p (sym same ∙ e)

@@ -1,8 +1,10 @@
--- Blocks of lines (01, "The plan file"). What an array has room for beyond the lines that are read is 0.
+-- Blocks of lines (01, "The plan file"), each behind the line before it. What an array has room for beyond the lines that are read is 0.
+--   LabelBlock, RoadBlock, ..       == the last line of a block, or the first fault, and what was made of its lines so far
 --   repeat n f x                    == f, n times, from x on
 --   Filling B                       == a block B in reading, with the index that the next line's numbers go to
 --   label_step, road_step, move_step, soft_step == one line, or one soft rule, more
 --   label_block s prior n bound      == n lines `label=L`, each L below bound
+--   road_of xs, move_of xs          == the road, and the move, of the numbers of a line
 --   on_line b xs i                   == the numbers xs stand on road line i of the block b
 --   earlier b n xs                  == they stand on one of its first n road lines (02, note 6)
 --   road_block s prior n bound       == n lines `road=A,B`, both below bound, of which none has the numbers of an earlier one
@@ -14,18 +16,42 @@
 --   soft_blocks s prior n labels     == n soft rules
 use Rattle.std.specs.Prelude.{Bool, ◌&&◌, List, ℕ, zero, suc, ◌+◌, ◌^◌, set, get_or, replicate, eqb}
 use Rattle.base.specs.Below.{any_below}
+use Rattle.automata.specs.Automaton.{no_move}
 use Rattle.automata.specs.WellFormed.{no_automaton}
+use Rattle.automata.specs.declared.Automaton.{Automaton}
+use Rattle.automata.specs.declared.Move.{Move}
+use Rattle.plan.specs.WellFormed.{no_road}
+use Rattle.plan.specs.declared.Road.{Road}
 use Rattle.reader.specs.Keys.{label_key, road_key, move_key, first_key, accept_key, moves_key, hard_key, soft_key, weight_key}
-use Rattle.text.specs.Line.{line_of_one, numbers_of, first_of}
+use Rattle.text.specs.Line.{Line, line_of_one, numbers_of, first_of}
 use Rattle.reader.specs.Line.{road_line, move_line}
 use Rattle.text.specs.declared.line.Numbers.{Numbers}
-use Rattle.text.specs.declared.line.Line.{Line}
-use Rattle.reader.specs.declared.block.LabelBlock.{LabelBlock}
-use Rattle.reader.specs.declared.block.RoadBlock.{RoadBlock}
-use Rattle.reader.specs.declared.block.MoveBlock.{MoveBlock}
-use Rattle.reader.specs.declared.block.AutomatonBlock.{AutomatonBlock}
-use Rattle.reader.specs.declared.block.SoftBlock.{SoftBlock}
-use Rattle.reader.specs.declared.block.SoftBlocks.{SoftBlocks}
+
+pub record LabelBlock : Type 0 where
+  pub line : Line
+  pub labels : List ℕ
+
+pub record RoadBlock : Type 0 where
+  pub line : Line
+  pub roads : List Road
+
+pub record MoveBlock : Type 0 where
+  pub line : Line
+  pub moves : List Move
+
+pub record AutomatonBlock : Type 0 where
+  pub line : Line
+  pub automaton : Automaton
+
+pub record SoftBlock : Type 0 where
+  pub line : Line
+  pub automaton : Automaton
+  pub weight : ℕ
+
+pub record SoftBlocks : Type 0 where
+  pub line : Line
+  pub soft : List Automaton
+  pub weights : List ℕ
 
 unfoldable pub repeat : {S : Type 0} → ℕ → (S → S) → S → S
 repeat zero f x = x
@@ -44,8 +70,11 @@ unfoldable pub label_block : List ℕ → Line → ℕ → ℕ → LabelBlock
 label_block s prior n bound =
     (repeat n (label_step s bound) (record { next = 0; block = record { line = prior; labels = replicate 128 0 } })).block
 
+abbrev pub road_of : Numbers → Road
+road_of xs = record { from = xs.first; to = xs.second }
+
 abbrev pub on_line : RoadBlock → Numbers → ℕ → Bool
-on_line b xs i = eqb (get_or b.from i 0) xs.first && eqb (get_or b.to i 0) xs.second
+on_line b xs i = eqb (get_or b.roads i no_road).from xs.first && eqb (get_or b.roads i no_road).to xs.second
 
 abbrev pub earlier : RoadBlock → ℕ → Numbers → Bool
 earlier b n xs = any_below n (on_line b xs)
@@ -53,36 +82,23 @@ earlier b n xs = any_below n (on_line b xs)
 abbrev pub road_step : List ℕ → ℕ → Filling RoadBlock → Filling RoadBlock
 road_step s bound x =
     let l = road_line s x.block.line road_key bound (earlier x.block x.next) in
-    let xs = numbers_of l in
-    record {
-      next = x.next + 1;
-      block = record { line = l; from = set x.block.from x.next xs.first; to = set x.block.to x.next xs.second };
-    }
+    record { next = x.next + 1; block = record { line = l; roads = set x.block.roads x.next (road_of (numbers_of l)) } }
 
 unfoldable pub road_block : List ℕ → Line → ℕ → ℕ → RoadBlock
 road_block s prior n bound =
-    (repeat n (road_step s bound) (record { next = 0; block = record { line = prior; from = replicate 1024 0; to = replicate 1024 0 } })).block
+    (repeat n (road_step s bound) (record { next = 0; block = record { line = prior; roads = replicate 1024 no_road } })).block
+
+abbrev pub move_of : Numbers → Move
+move_of xs = record { from = xs.first; need = xs.second; bar = xs.third; any = xs.fourth; to = xs.fifth }
 
 abbrev pub move_step : List ℕ → ℕ → ℕ → Filling MoveBlock → Filling MoveBlock
 move_step s q labels x =
     let l = move_line s x.block.line move_key q labels in
-    let xs = numbers_of l in
-    record {
-      next = x.next + 1;
-      block = record {
-        line = l;
-        from = set x.block.from x.next xs.first;
-        need = set x.block.need x.next xs.second;
-        bar = set x.block.bar x.next xs.third;
-        any = set x.block.any x.next xs.fourth;
-        to = set x.block.to x.next xs.fifth;
-      };
-    }
+    record { next = x.next + 1; block = record { line = l; moves = set x.block.moves x.next (move_of (numbers_of l)) } }
 
 unfoldable pub move_block : List ℕ → Line → ℕ → ℕ → ℕ → MoveBlock
 move_block s prior n q labels =
-    let zeros : List ℕ = replicate 64 0 in
-    (repeat n (move_step s q labels) (record { next = 0; block = record { line = prior; from = zeros; need = zeros; bar = zeros; any = zeros; to = zeros } })).block
+    (repeat n (move_step s q labels) (record { next = 0; block = record { line = prior; moves = replicate 64 no_move } })).block
 
 unfoldable pub automaton_block : List ℕ → Line → ℕ → ℕ → AutomatonBlock
 automaton_block s prior q labels =
@@ -96,12 +112,8 @@ automaton_block s prior q labels =
         states = q;
         first = first_of first;
         accept = first_of accept;
-        moves = first_of count;
-        from = x.from;
-        need = x.need;
-        bar = x.bar;
-        any = x.any;
-        to = x.to;
+        move_count = first_of count;
+        moves = x.moves;
       };
     }
 

@@ -3,5 +3,4 @@ pub mod Line
 pub mod Keys
 pub mod Blocks
 pub mod Map
-pub mod Outcome
 pub mod Reading

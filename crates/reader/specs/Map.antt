@@ -1,13 +1,17 @@
 -- The lines of a plan file through the last road (01, "The plan file", the rows tour to road).
---   map_of s         == what those lines come to
---   MapRead given r == r is the map `given`; its marks are at most 8
-use Rattle.std.specs.Prelude.{◌≡◌, List, ℕ, ◌^◌, ◌≤◌}
+--   MapBlock  == the last of these lines, or the first fault, and the map that they make
+--   map_of s  == what those lines come to
+use Rattle.std.specs.Prelude.{List, ℕ, ◌^◌}
 use Rattle.reader.specs.Keys.{tour_key, marks_key, places_key, start_key, roads_key}
-use Rattle.text.specs.Line.{line_of_one, first_of, top}
+use Rattle.text.specs.Line.{Line, line_of_one, first_of, top}
 use Rattle.reader.specs.Blocks.{label_block, road_block}
 use Rattle.reader.specs.declared.map.Map.{Map}
 
-unfoldable pub map_of : List ℕ → Map
+pub record MapBlock : Type 0 where
+  pub line : Line
+  pub map : Map
+
+unfoldable pub map_of : List ℕ → MapBlock
 map_of s =
     let tour = line_of_one s top tour_key 1 2 in
     let marks = line_of_one s tour marks_key 0 9 in
@@ -18,15 +22,12 @@ map_of s =
     let roads = road_block s count (first_of count) (first_of places) in
     record {
       line = roads.line;
-      marks = first_of marks;
-      places = first_of places;
-      start = first_of start;
-      roads = first_of count;
-      labels = labels.labels;
-      from = roads.from;
-      to = roads.to;
+      map = record {
+        marks = first_of marks;
+        places = first_of places;
+        start = first_of start;
+        road_count = first_of count;
+        labels = labels.labels;
+        roads = roads.roads;
+      };
     }
-
-pub record MapRead (given r : Map) : Type 0 where
-  pub same : r ≡ given
-  pub marks : r.marks ≤ 8

@@ -1,101 +1,100 @@
-//! Blocks of lines: labels, roads, moves, and the automata of the hard rule and of the soft rules.
-ghost use Rattle.std.specs.Prelude.{◌≡◌, ◌^◌, ◌≤◌};
+//! Blocks of lines: labels, roads, moves, and the automata of the hard rule and of the soft rules. Each is read from a cursor, and
+//! gives what was read with the next one; the first fault ends it.
+ghost use Rattle.std.specs.Prelude.{◌≡◌, ◌^◌, ◌≤◌, Ok};
+ghost use Rattle.text.specs.Line.{told};
+ghost use Rattle.text.specs.declared.line.Numbers.{Numbers};
+ghost use Rattle.automata.specs.Automaton.{no_move};
 ghost use Rattle.automata.specs.WellFormed.{no_automaton};
 ghost use Rattle.reader.specs.Blocks.{label_block, road_block, move_block, automaton_block, hard_block, soft_block, soft_blocks};
 
 use crate::line::{move_line, road_line};
-use automata::Automaton;
-use text::line::{Line, first_of, line_of_one, numbers_of};
-
-#[derive(Clone, Copy)]
-pub struct LabelBlock {
-    pub line: Line,
-    pub labels: [u8; 128],
-}
+use automata::{Automaton, Move};
+use plan::Road;
+use text::fault::Fault;
+use text::line::{Cursor, line_of_one};
 
 // The labels of n places, each below `bound`.
-pub fn label_block(s: &[u8], prior: Line, n: usize, bound: u32) -> LabelBlock
+pub fn label_block(
+    s: &[u8],
+    from: Cursor,
+    n: usize,
+    bound: u32,
+) -> Result<([u8; 128], Cursor), Fault>
     requires { (n ≤ 128) × (bound ≤ 256) }
-    ensures { result ≡ label_block s.now prior n bound }
+    ensures { (xs : Numbers) → let b = label_block s.now (Ok (xs, from)) n bound in result ≡ told b.line b.labels }
 {
-    let mut line = prior;
-    let mut labels = [0u8; 128];
-    let mut i = 0;
-    while i < n {
-        line = line_of_one(s, line, b"label=", 0, bound);
-        labels[i] = first_of(line) as u8;
-        i += 1;
+    let mut cursor = from;
+    let mut labels = [0; 128];
+    for label in &mut labels[..n] {
+        let (x, next) = line_of_one(s, cursor, b"label=", 0, bound)?;
+        *label = x as u8;
+        cursor = next;
     }
-    LabelBlock { line, labels }
-}
-
-#[derive(Clone, Copy)]
-pub struct RoadBlock {
-    pub line: Line,
-    pub from: [u8; 1024],
-    pub to: [u8; 1024],
+    Ok((labels, cursor))
 }
 
 // n roads between places below `bound`, each once.
-pub fn road_block(s: &[u8], prior: Line, n: usize, bound: u32) -> RoadBlock
+pub fn road_block(
+    s: &[u8],
+    from: Cursor,
+    n: usize,
+    bound: u32,
+) -> Result<([Road; 1024], Cursor), Fault>
     requires { (n ≤ 1024) × (bound ≤ 128) }
-    ensures { result ≡ road_block s.now prior n bound }
+    ensures { (xs : Numbers) → let b = road_block s.now (Ok (xs, from)) n bound in result ≡ told b.line b.roads }
 {
-    let mut line = prior;
-    let mut from = [0u8; 1024];
-    let mut to = [0u8; 1024];
-    let mut pairs = [0u32; 512];
-    let mut i = 0;
-    while i < n {
-        line = road_line(s, line, b"road=", bound, &mut pairs);
-        let xs = numbers_of(line);
-        from[i] = xs.first as u8;
-        to[i] = xs.second as u8;
-        i += 1;
+    let mut cursor = from;
+    let mut roads = [Road { from: 0, to: 0 }; 1024];
+    let mut pairs = [0; 512];
+    for road in &mut roads[..n] {
+        let (xs, next) = road_line(s, cursor, b"road=", bound, &mut pairs)?;
+        *road = Road {
+            from: xs.first as u8,
+            to: xs.second as u8,
+        };
+        cursor = next;
     }
-    RoadBlock { line, from, to }
+    Ok((roads, cursor))
 }
 
-#[derive(Clone, Copy)]
-pub struct MoveBlock {
-    pub line: Line,
-    pub from: [u8; 64],
-    pub need: [u8; 64],
-    pub bar: [u8; 64],
-    pub any: [u8; 64],
-    pub to: [u8; 64],
+// A move of zeros.
+fn no_move() -> Move
+    ensures { result ≡ no_move }
+{
+    Move {
+        from: 0,
+        need: 0,
+        bar: 0,
+        any: 0,
+        to: 0,
+    }
 }
 
 // n moves between states below `states`, under labels below `labels`.
-pub fn move_block(s: &[u8], prior: Line, n: usize, states: u32, labels: u32) -> MoveBlock
+pub fn move_block(
+    s: &[u8],
+    from: Cursor,
+    n: usize,
+    states: u32,
+    labels: u32,
+) -> Result<([Move; 64], Cursor), Fault>
     requires { (n ≤ 64) × (states ≤ 256) × (labels ≤ 256) }
-    ensures { result ≡ move_block s.now prior n states labels }
+    ensures { (xs : Numbers) → let b = move_block s.now (Ok (xs, from)) n states labels in result ≡ told b.line b.moves }
 {
-    let mut line = prior;
-    let mut from = [0u8; 64];
-    let mut need = [0u8; 64];
-    let mut bar = [0u8; 64];
-    let mut any = [0u8; 64];
-    let mut to = [0u8; 64];
-    let mut i = 0;
-    while i < n {
-        line = move_line(s, line, b"move=", states, labels);
-        let xs = numbers_of(line);
-        from[i] = xs.first as u8;
-        need[i] = xs.second as u8;
-        bar[i] = xs.third as u8;
-        any[i] = xs.fourth as u8;
-        to[i] = xs.fifth as u8;
-        i += 1;
+    let mut cursor = from;
+    let mut moves = [no_move(); 64];
+    for m in &mut moves[..n] {
+        let (xs, next) = move_line(s, cursor, b"move=", states, labels)?;
+        *m = Move {
+            from: xs.first as u8,
+            need: xs.second as u8,
+            bar: xs.third as u8,
+            any: xs.fourth as u8,
+            to: xs.fifth as u8,
+        };
+        cursor = next;
     }
-    MoveBlock {
-        line,
-        from,
-        need,
-        bar,
-        any,
-        to,
-    }
+    Ok((moves, cursor))
 }
 
 // 2 to the m.
@@ -103,7 +102,7 @@ pub fn power(m: u32) -> u32
     requires { m ≤ 16 }
     ensures { (result ≡ 2 ^ m) × (result ≤ 65536) }
 {
-    1u32 << m
+    1 << m
 }
 
 // How many labels m marks can make.
@@ -114,73 +113,48 @@ pub fn label_count(m: u32) -> u32
     power(m)
 }
 
-#[derive(Clone, Copy)]
-pub struct AutomatonBlock {
-    pub line: Line,
-    pub automaton: Automaton,
-}
-
-// The lines of an automaton of q states behind the one that says q: first, accept, moves and the moves.
-pub fn automaton_block(s: &[u8], prior: Line, q: u32, labels: u32) -> AutomatonBlock
-    requires { (q ≤ 16) × (labels ≤ 256) }
-    ensures { result ≡ automaton_block s.now prior q labels }
+// The lines of an automaton of so many states behind the one that says it: first, accept, moves and the moves.
+pub fn automaton_block(
+    s: &[u8],
+    from: Cursor,
+    states: u32,
+    labels: u32,
+) -> Result<(Automaton, Cursor), Fault>
+    requires { (states ≤ 16) × (labels ≤ 256) }
+    ensures { (xs : Numbers) → let b = automaton_block s.now (Ok (xs, from)) states labels in result ≡ told b.line b.automaton }
 {
-    let first = line_of_one(s, prior, b"first=", 0, q);
-    let accept = line_of_one(s, first, b"accept=", 0, power(q));
-    let count = line_of_one(s, accept, b"moves=", 0, 65);
-    let n = first_of(count);
-    let x = move_block(s, count, n as usize, q, labels);
-    let line = x.line;
-    let from = x.from;
-    let need = x.need;
-    let bar = x.bar;
-    let any = x.any;
-    let to = x.to;
+    let (first, cursor) = line_of_one(s, from, b"first=", 0, states)?;
+    let (accept, cursor) = line_of_one(s, cursor, b"accept=", 0, power(states))?;
+    let (move_count, cursor) = line_of_one(s, cursor, b"moves=", 0, 65)?;
+    let (moves, cursor) = move_block(s, cursor, move_count as usize, states, labels)?;
     let automaton = Automaton {
-        states: q,
-        first: first_of(first),
-        accept: first_of(accept),
-        moves: n,
-        from,
-        need,
-        bar,
-        any,
-        to,
+        states,
+        first,
+        accept,
+        move_count,
+        moves,
     };
-    AutomatonBlock { line, automaton }
+    Ok((automaton, cursor))
 }
 
 // The hard rule.
-pub fn hard_block(s: &[u8], prior: Line, labels: u32) -> AutomatonBlock
+pub fn hard_block(s: &[u8], from: Cursor, labels: u32) -> Result<(Automaton, Cursor), Fault>
     requires { labels ≤ 256 }
-    ensures { result ≡ hard_block s.now prior labels }
+    ensures { (xs : Numbers) → let b = hard_block s.now (Ok (xs, from)) labels in result ≡ told b.line b.automaton }
 {
-    let states = line_of_one(s, prior, b"hard=", 1, 17);
-    automaton_block(s, states, first_of(states), labels)
+    let (states, cursor) = line_of_one(s, from, b"hard=", 1, 17)?;
+    automaton_block(s, cursor, states, labels)
 }
 
-#[derive(Clone, Copy)]
-pub struct SoftBlock {
-    pub line: Line,
-    pub automaton: Automaton,
-    pub weight: u32,
-}
-
-// One soft rule.
-pub fn soft_block(s: &[u8], prior: Line, labels: u32) -> SoftBlock
+// One soft rule: its automaton and its weight.
+pub fn soft_block(s: &[u8], from: Cursor, labels: u32) -> Result<((Automaton, u32), Cursor), Fault>
     requires { labels ≤ 256 }
-    ensures { result ≡ soft_block s.now prior labels }
+    ensures { (xs : Numbers) → let b = soft_block s.now (Ok (xs, from)) labels in result ≡ told b.line (b.automaton, b.weight) }
 {
-    let states = line_of_one(s, prior, b"soft=", 1, 9);
-    let weight = line_of_one(s, states, b"weight=", 0, 4000001);
-    let x = automaton_block(s, weight, first_of(states), labels);
-    let line = x.line;
-    let automaton = x.automaton;
-    SoftBlock {
-        line,
-        automaton,
-        weight: first_of(weight),
-    }
+    let (states, cursor) = line_of_one(s, from, b"soft=", 1, 9)?;
+    let (weight, cursor) = line_of_one(s, cursor, b"weight=", 0, 4000001)?;
+    let (automaton, cursor) = automaton_block(s, cursor, states, labels)?;
+    Ok(((automaton, weight), cursor))
 }
 
 pub fn no_automaton() -> Automaton
@@ -190,44 +164,30 @@ pub fn no_automaton() -> Automaton
         states: 0,
         first: 0,
         accept: 0,
-        moves: 0,
-        from: [0u8; 64],
-        need: [0u8; 64],
-        bar: [0u8; 64],
-        any: [0u8; 64],
-        to: [0u8; 64],
+        move_count: 0,
+        moves: [no_move(); 64],
     }
 }
 
-#[derive(Clone, Copy)]
-pub struct SoftBlocks {
-    pub line: Line,
-    pub soft: [Automaton; 8],
-    pub weights: [u32; 8],
-}
-
-// n soft rules.
-pub fn soft_blocks(s: &[u8], prior: Line, n: usize, labels: u32) -> SoftBlocks
+// n soft rules: their automata and their weights.
+pub fn soft_blocks(
+    s: &[u8],
+    from: Cursor,
+    n: usize,
+    labels: u32,
+) -> Result<(([Automaton; 8], [u32; 8]), Cursor), Fault>
     requires { (n ≤ 8) × (labels ≤ 256) }
-    ensures { result ≡ soft_blocks s.now prior n labels }
+    ensures { (xs : Numbers) → let b = soft_blocks s.now (Ok (xs, from)) n labels in result ≡ told b.line (b.soft, b.weights) }
 {
-    let mut line = prior;
-    let none = no_automaton();
-    let mut soft = [none; 8];
-    let mut weights = [0u32; 8];
-    let mut i = 0;
-    while i < n {
-        let b = soft_block(s, line, labels);
-        let behind = b.line;
-        line = behind;
-        let automaton = b.automaton;
+    let mut cursor = from;
+    let mut soft = [no_automaton(); 8];
+    let mut weights = [0; 8];
+    // By index: a rule goes to two arrays.
+    for i in 0..n {
+        let ((automaton, weight), next) = soft_block(s, cursor, labels)?;
         soft[i] = automaton;
-        weights[i] = b.weight;
-        i += 1;
+        weights[i] = weight;
+        cursor = next;
     }
-    SoftBlocks {
-        line,
-        soft,
-        weights,
-    }
+    Ok(((soft, weights), cursor))
 }

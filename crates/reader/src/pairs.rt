@@ -10,7 +10,7 @@ pub fn noted(pairs: &[u32], a: usize, b: usize) -> bool
     ensures { result ≡ noted pairs.now a b }
 {
     let i = a * 128 + b;
-    has(pairs[i / 32] as u64, i % 32)
+    has(u64::from(pairs[i / 32]), i % 32)
 }
 
 // Notes it.
@@ -19,5 +19,5 @@ pub fn note(pairs: &mut [u32], a: usize, b: usize)
     ensures { pairs.new ≡ noting pairs.old a b }
 {
     let i = a * 128 + b;
-    pairs[i / 32] = pairs[i / 32] | one(i % 32) as u32;
+    pairs[i / 32] |= one(i % 32) as u32;
 }

@@ -1,41 +1,59 @@
 -- Laws of the table of who leads where.
---   park_marked, park_passed
---                  == what one place adds: its entry with itself where it has no exit, else nothing
+--   puts at xs l   == l with the entries of the pairs xs
+--   puts_through   == calls that put in a pair each put in all
+--   charted_pairs  == the pairs of places that are joined make the table
 --   charted_length == filling keeps the length
 --   charted_apart  == what lies before the table and behind it stays
 --   charted_at     == an entry that was 0 is 1 where the one place is joined to the other, else 0
---   charted_by     == so it is filled by a list of exits in which nothing stood before the roads were marked
 use mathlib.Core.Path.{◌≡◌, refl, sym, ap, ◌∙◌}
 use mathlib.Core.Bool.{Bool, true, false, cond, not, ◌&&◌, ◌||◌}
-use mathlib.Core.List.{List}
-use Prim.Native.Nat.{ℕ, ◌+◌, ◌*◌, ◌≤◌, ◌<◌}
+use mathlib.Core.List.{List, [], ◌∷◌, ◌++◌}
+use Prim.Native.Nat.{ℕ, zero, suc, ◌+◌, ◌*◌, ◌≤◌, ◌<◌}
 use native.Mathlib.Decide.{dec_lt}
 use native.Mathlib.Omega.{arith}
-use borrow.Author.Tests.{lt-ltb, ltb-true, eq-eqb, ne_eqb, eqb-true}
-use lib.ListN.{length, get_or, set, replicate, length-replicate, get_or-replicate, get_or-eq_default}
+use borrow.Author.Tests.{lt-ltb, ltb-true, eq-eqb, eqb-true}
+use lib.ListN.{length, get_or, set, get_or-eq_default}
 use lib.Seq.{set_out}
 use lib.Dec.{eqb, ltb}
+use Rattle.std.proofs.Common.{append-nil}
+use Rattle.std.specs.List.{FoldsTo}
+use Rattle.std.proofs.lemmas.Fn.{chained_keeps}
 use Rattle.base.specs.Below.{any_below}
 use Rattle.base.specs.Marks.{marks}
 use Rattle.base.proofs.Tests.{bool_same, and_intro, and_left, and_right, any_intro, any_elim, any_same, pair_same}
-use Rattle.base.proofs.Marks.{marks_length, marks_apart, marks_at, marks_same}
+use Rattle.base.proofs.Marks.{marks_length, marks_apart, marks_at}
 use Rattle.plan.specs.Tour.{road_count, is_road, has_road, leaves, parks, joins}
-use Rattle.plan.specs.WellFormed.{WellFormed}
+use Rattle.plan.specs.WellFormed.{WellFormed, road}
 use Rattle.plan.specs.declared.Plan.{Plan}
-use Rattle.roadmap.specs.Chart.{road_cell, park_cell, no_exit, charted}
+use Rattle.roadmap.specs.Chart.{road_cell, park_cell, charted}
+use Rattle.roadmap.specs.Joined.{road_pairs, joined_pairs, pairs}
 
 -- counted from elsewhere, two entries are one where they were
 shifted : (at x y : ℕ) → eqb (at + x) (at + y) ≡ eqb x y
 shifted at x y =
     bool_same _ _ (λ h. let e = eqb-true (at + x) (at + y) h in eq-eqb x y (omega arith)) (λ h. let e = eqb-true x y h in eq-eqb (at + x) (at + y) (omega arith))
 
--- as the code decides it: with no exit the place's entry, else none
-module _ (exits l : List ℕ) (at u : ℕ) where
-  pub park_marked : get_or exits u 0 ≡ 0 → set l (at + (u * 128 + u)) 1 ≡ set l (park_cell (no_exit exits) at (length l) u) 1
-  park_marked e = rw (eq-eqb (get_or exits u 0) 0 e)
+-- the entries of pairs of places, set one after the other
+pub puts : ℕ → List (ℕ × ℕ) → List ℕ → List ℕ
+puts at [] l = l
+puts at (x ∷ xs) l = puts at xs (set l (at + (x.0 * 128 + x.1)) 1)
 
-  pub park_passed : (get_or exits u 0 ≡ 0 → ⊥) → l ≡ set l (park_cell (no_exit exits) at (length l) u) 1
-  park_passed e = rw (ne_eqb (get_or exits u 0) 0 e) (sym (set_out l (length l) 1 (omega arith)))
+puts_push : (at : ℕ) (xs : List (ℕ × ℕ)) (x : ℕ × ℕ) (l : List ℕ) → puts at (xs ++ (x ∷ [])) l ≡ set (puts at xs l) (at + (x.0 * 128 + x.1)) 1
+unfolding puts
+puts_push at [] x l = refl
+puts_push at (y ∷ ys) x l = puts_push at ys x (set l (at + (y.0 * 128 + y.1)) 1)
+
+-- what calls leave that put in a pair each
+pub puts_through : {F N : Type 0} (R : F → ℕ × ℕ → F → Type 0) (xs : List (ℕ × ℕ)) (f g : F) → FoldsTo R f xs g → (name : F → N) (at : F → ℕ) (table : F → List ℕ)
+    → ((f : F) (x : ℕ × ℕ) (g : F) → R f x g → (name g ≡ name f) × (at g ≡ at f) × (table g ≡ set (table f) (at f + (x.0 * 128 + x.1)) 1))
+    → {l : List ℕ} → (name f ≡ name g → l ≡ table g) → l ≡ puts (at f) xs (table f)
+unfolding puts
+puts_through {F} R xs f g ran name at table step left = left (sym kept.0) ∙ kept.2
+  where
+    kept : (name g ≡ name f) × (at g ≡ at f) × (table g ≡ puts (at f) xs (table f))
+    kept =
+        chained_keeps R (λ xs g. (name g ≡ name f) × (at g ≡ at f) × (table g ≡ puts (at f) xs (table f)))
+        (λ xs q x v j r. let s = step q x v r in (s.0 ∙ j.0, s.1 ∙ j.1, s.2 ∙ rw (j.1, j.2, puts_push (at f) xs x (table f)) refl)) xs f g (refl, refl, refl) ran
 
 -- what a choice that is no `none` chose
 chosen : (b : Bool) (x none i : ℕ) → i < none → cond b x none ≡ i → (b ≡ true) × (x ≡ i)
@@ -49,17 +67,17 @@ first_or false b = refl
 
 module _ (p : Plan) (at : ℕ) where
   abbrev roads : ℕ → ℕ
-  roads = road_cell p.from p.to at
+  roads = road_cell p at
 
   abbrev stays : ℕ → Bool
   stays u = not (leaves p u)
 
   abbrev driven : List ℕ → List ℕ
-  driven l = marks roads p.roads l
+  driven l = marks roads p.road_count l
 
   pub charted_length : (l : List ℕ) → length (charted p at l) ≡ length l
   unfolding charted
-  charted_length l = marks_length (park_cell stays at (length l)) p.places (driven l) ∙ marks_length roads p.roads l
+  charted_length l = marks_length (park_cell stays at (length l)) p.places (driven l) ∙ marks_length roads p.road_count l
 
   module _ (w : WellFormed p) where
     pub charted_apart : (l : List ℕ) (i : ℕ) → (at ≤ i → i < at + 16384 → ⊥) → get_or (charted p at l) i 0 ≡ get_or l i 0
@@ -70,7 +88,7 @@ module _ (p : Plan) (at : ℕ) where
         by (yes inside) =
             marks_apart (park_cell stays at (length l)) p.places (driven l) i
             (λ u k e. let c = chosen (stays u) _ (length l) i inside e in out (omega (arith, c.1)) (omega (arith, c.1, w.few)))
-            ∙ marks_apart roads p.roads l i (λ t _ e. out (omega arith) (omega (arith, w.from t, w.to t, w.few)))
+            ∙ marks_apart roads p.road_count l i (λ t _ e. out (omega arith) (omega (arith, w.from t, w.to t, w.few)))
         by (no past) = get_or-eq_default (charted p at l) 0 (omega (arith, charted_length l)) ∙ sym (get_or-eq_default l 0 (omega arith))
 
     module _ (u v : ℕ) (below : v < 128) where
@@ -78,11 +96,11 @@ module _ (p : Plan) (at : ℕ) where
       here = at + (u * 128 + v)
 
       -- the entry is that of some road
-      road_here : any_below p.roads (λ i. eqb (roads i) here) ≡ has_road p u v
+      road_here : any_below p.road_count (λ i. eqb (roads i) here) ≡ has_road p u v
       road_here =
-          let count : p.roads ≡ road_count p = omega (arith, w.roads) in
-          any_same (λ i. eqb (roads i) here) (is_road p u v) p.roads
-          (λ i _. shifted at _ _ ∙ pair_same (get_or p.from i 0) (get_or p.to i 0) u v (omega (arith, w.to i, w.few)) below)
+          let count : p.road_count ≡ road_count p = omega (arith, w.roads) in
+          any_same (λ i. eqb (roads i) here) (is_road p u v) p.road_count
+          (λ i _. shifted at _ _ ∙ pair_same (road p i).from (road p i).to u v (omega (arith, w.to i, w.few)) below)
           ∙ ap (λ n. any_below n (is_road p u v)) count
 
       -- the entry is that of a place that parks
@@ -107,27 +125,29 @@ module _ (p : Plan) (at : ℕ) where
       pub charted_at : (l : List ℕ) → here < length l → get_or l here 0 ≡ 0 → get_or (charted p at l) here 0 ≡ cond (joins p u v) 1 0
       unfolding charted joins
       charted_at l inside blank =
-          marks_at (park_cell stays at (length l)) p.places (driven l) here (omega (arith, marks_length roads p.roads l))
-          ∙ rw (park_here (length l) inside, marks_at roads p.roads l here inside, road_here, blank) (first_or (has_road p u v) (eqb u v && parks p u))
+          marks_at (park_cell stays at (length l)) p.places (driven l) here (omega (arith, marks_length roads p.road_count l))
+          ∙ rw (park_here (length l) inside, marks_at roads p.road_count l here inside, road_here, blank) (first_or (has_road p u v) (eqb u v && parks p u))
 
-    -- the exits that are marked are those of the plan
-    abbrev exits_of : List ℕ
-    exits_of = marks (λ i. get_or p.from i 0) p.roads (replicate 128 0)
+  -- pairs put in one after the other make the table
+  puts_roads : (l : List ℕ) (n : ℕ) → puts at (road_pairs p n) l ≡ marks roads n l
+  unfolding puts road_pairs marks
+  puts_roads l zero = refl
+  puts_roads l (suc n) = puts_push at (road_pairs p n) _ l ∙ ap (λ m. set m (roads n) 1) (puts_roads l n)
 
-    exits_tell : (u : ℕ) → u < 128 → no_exit exits_of u ≡ stays u
-    exits_tell u h =
-        let count : road_count p ≡ p.roads = omega (arith, w.roads) in
-        ap (λ x. eqb x 0) (marks_at (λ i. get_or p.from i 0) p.roads (replicate 128 0) u (omega (arith, length-replicate {A = ℕ} 128 0)))
-        ∙ rw (get_or-replicate {A = ℕ} 128 u 0 0 h, count) (is_none (any_below p.roads (λ i. eqb (get_or p.from i 0) u)))
-      where
-        is_none : (b : Bool) → eqb (cond b 1 0) 0 ≡ not b
-        is_none true = refl
-        is_none false = refl
+  puts_parked : (l : List ℕ) (n : ℕ) → puts at (joined_pairs p n) l ≡ marks (park_cell stays at (length l)) n (driven l)
+  unfolding joined_pairs marks
+  puts_parked l zero = puts_roads l p.road_count
+  puts_parked l (suc n) = by (leaves p n) refl (puts_parked l n)
+    where
+      m : List ℕ
+      m = marks (park_cell stays at (length l)) n (driven l)
 
-    pub charted_by : (l mid next exits : List ℕ) → mid ≡ driven l → exits ≡ exits_of
-        → next ≡ marks (park_cell (no_exit exits) at (length mid)) p.places mid → next ≡ charted p at l
-    unfolding charted
-    charted_by l mid next exits e f h =
-        h ∙ rw (f, e, marks_length roads p.roads l)
-        (marks_same (park_cell (no_exit exits_of) at (length l)) (park_cell stays at (length l)) p.places (driven l)
-        (λ u k. ap (λ b. cond b (at + (u * 128 + u)) (length l)) (exits_tell u (omega (arith, w.few)))))
+      by : (b : Bool) → leaves p n ≡ b → puts at (joined_pairs p n) l ≡ m → puts at (joined_pairs p n ++ cond (leaves p n) [] ((n, n) ∷ [])) l ≡ set m (park_cell stays at (length l) n) 1
+      by true e before =
+          let long : length m ≡ length l = marks_length (park_cell stays at (length l)) n (driven l) ∙ marks_length roads p.road_count l in
+          rw (e, append-nil) (before ∙ sym (set_out m (length l) 1 (omega arith)))
+      by false e before = rw e (puts_push at (joined_pairs p n) (n, n) l ∙ ap (λ m. set m (at + (n * 128 + n)) 1) before)
+
+  pub charted_pairs : (l : List ℕ) → puts at (pairs p) l ≡ charted p at l
+  unfolding charted
+  charted_pairs l = puts_parked l p.places

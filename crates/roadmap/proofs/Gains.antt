@@ -1,34 +1,32 @@
--- Roads that are added to a table, one by one.
---   gains_single              == a table with one bit more has one road more
---   gains_then                == two additions after each other
---   gains_if, gains_not       == roads that are added under a condition, which holds or not
---   listed_start, listed_next == the roads of two lists
---   parked_start, parked_next == the places that no road leaves, each with itself
---   bare_zero, bare_low, bare_high == whether a place is bare, by its two words
---   bare_same                 == the places before have got nothing that leaves this one
---   Growing R S i n           == a loop over n things has added R to one table and S to the other by the first i of them
-use mathlib.Core.Path.{◌≡◌, refl, sym, ap, ◌∙◌}
-use mathlib.Core.Bool.{Bool, true, false, not, ◌&&◌, ◌||◌, or-true, or-false, and-true, and-false, or_assoc}
-use mathlib.Core.List.{List}
-use Prim.Native.Nat.{ℕ, ◌+◌, ◌-◌, ◌*◌, ◌/◌, ◌%◌, ◌^◌, ◌≤◌, ◌<◌}
+-- Roads that are added to a pair of tables, one by one.
+--   gains_single == a table with one bit more has one road more
+--   Told R roads broads == `roads` tells what R says, `broads` tells it turned round
+--   told_through == calls that add a pair each add all to blank tables
+--   told_joins   == the pairs of places that are joined, added, tell which places are joined
+use mathlib.Core.Path.{◌≡◌, refl, sym, ap, ap₂, ◌∙◌}
+use mathlib.Core.Bool.{Bool, true, false, cond, not, ◌&&◌, ◌||◌, or-true, or-false, and-true, and-false, and_comm, or_assoc}
+use mathlib.Core.List.{List, [], ◌∷◌, ◌++◌}
+use Prim.Native.Nat.{ℕ, zero, suc, ◌+◌, ◌*◌, ◌/◌, ◌%◌, ◌^◌, ◌<◌}
 use native.Mathlib.Decide.{dec_lt, ℕ_discrete}
-use native.Mathlib.Numerals.{add-one}
 use native.Mathlib.Omega.{arith}
 use borrow.Author.Tests.{lt-ltb, le-ltb, eq-eqb, ne_eqb}
-use lib.ListN.{length, get_or, set}
+use lib.ListN.{length, get_or, set, replicate}
 use lib.Bits.{bit_or}
-use lib.Count.{count_trailing_zeros}
-use lib.Dec.{eqb}
+use lib.Dec.{eqb, ltb}
+use Rattle.std.proofs.Common.{append-nil}
+use Rattle.std.specs.List.{FoldsTo}
+use Rattle.std.proofs.lemmas.Fn.{chained_keeps}
 use Rattle.base.specs.Below.{any_below}
-use Rattle.base.specs.Bits.{has_bit}
-use Rattle.base.proofs.Members.{lowest_set}
-use Rattle.base.proofs.Tests.{any_intro, any_elim, any_same, false_not_true}
 use Rattle.nodes.specs.Sets.{in_b, road_b, With}
 use Rattle.nodes.proofs.Numbers.{node_place, node_tuple}
-use Rattle.nodes.proofs.Masks.{has_none}
+use Rattle.nodes.proofs.Words.{blank_at}
 use Rattle.nodes.proofs.Changes.{word_joined}
-use Rattle.nodes.proofs.Roads.{road_in, road_low, road_high}
-use Rattle.roadmap.specs.Words.{single, listed, bare, parked, Gains}
+use Rattle.nodes.proofs.Roads.{road_in, road_none}
+use Rattle.plan.specs.Tour.{road_count, is_road, has_road, leaves, joins}
+use Rattle.plan.specs.WellFormed.{WellFormed}
+use Rattle.plan.specs.declared.Plan.{Plan}
+use Rattle.roadmap.specs.Joined.{road_pairs, joined_pairs, pairs}
+use Rattle.roadmap.specs.Words.{single, Gains}
 
 -- one road more
 pub gains_single : (l : List ℕ) (a b : ℕ) → length l ≡ 256 → a < 128 → b < 128
@@ -53,81 +51,84 @@ gains_single l a b long ha hb = record { has = λ x y hx hy. road_in l' x y hx �
     by x y hx hy (yes e) (no f) = rw (eq-eqb a x e, ne_eqb b y f, or-false) (joined.others (y * 128 + x) (omega arith) (λ z. f (omega arith)))
     by x y hx hy (no e) d = rw (ne_eqb a x e, or-false) (joined.others (y * 128 + x) (omega arith) (λ z. e (omega arith)))
 
-gains_none : (R : ℕ → ℕ → Bool) (l : List ℕ) → ((x y : ℕ) → R x y ≡ false) → Gains R l l
-gains_none R l none = record { has = λ x y _ _. rw (none x y, or-false) }
+-- one of the pairs
+pub among : List (ℕ × ℕ) → ℕ → ℕ → Bool
+among [] x y = false
+among (z ∷ zs) x y = single z.0 z.1 x y || among zs x y
 
-pub gains_then : {R S : ℕ → ℕ → Bool} {l l₁ l₂ : List ℕ} (Q : ℕ → ℕ → Bool) → Gains R l l₁ → Gains S l₁ l₂ → ((x y : ℕ) → R x y || S x y ≡ Q x y) → Gains Q l l₂
-gains_then {R} {S} {l} Q g h e =
-    record { has = λ x y hx hy. h.has x y hx hy ∙ ap (λ r. r || S x y) (g.has x y hx hy) ∙ or_assoc (road_b l x y) (R x y) (S x y) ∙ ap (λ r. road_b l x y || r) (e x y) }
+among_push : (zs : List (ℕ × ℕ)) (z : ℕ × ℕ) (x y : ℕ) → among (zs ++ (z ∷ [])) x y ≡ among zs x y || single z.0 z.1 x y
+unfolding among
+among_push [] z x y = or-false (single z.0 z.1 x y)
+among_push (t ∷ ts) z x y = ap (λ r. single t.0 t.1 x y || r) (among_push ts z x y) ∙ sym (or_assoc (single t.0 t.1 x y) (among ts x y) (single z.0 z.1 x y))
 
-pub gains_if : {R : ℕ → ℕ → Bool} {l l' : List ℕ} (b : Bool) → b ≡ true → Gains R l l' → Gains (λ x y. R x y && b) l l'
-gains_if {R} {l} b e g = record { has = λ x y hx hy. g.has x y hx hy ∙ rw (e, and-true (R x y)) }
+pub record Told (R : ℕ → ℕ → Bool) (roads broads : List ℕ) : Type 0 where
+  pub forth : (x y : ℕ) → x < 128 → y < 128 → road_b roads x y ≡ R x y
+  pub back : (x y : ℕ) → x < 128 → y < 128 → road_b broads y x ≡ R x y
 
-pub gains_not : (R : ℕ → ℕ → Bool) (b : Bool) (l : List ℕ) → b ≡ false → Gains (λ x y. R x y && b) l l
-gains_not R b l e = gains_none (λ x y. R x y && b) l (λ x y. rw e (and-false (R x y)))
+told_none : {l m : List ℕ} → l ≡ replicate 256 0 → m ≡ replicate 256 0 → Told (among []) l m
+unfolding among
+told_none e f = record {
+  forth = λ x y _ _. ap (λ k. road_b k x y) e ∙ road_none (replicate 256 0) (blank_at 256) x y;
+  back = λ x y _ _. ap (λ k. road_b k y x) f ∙ road_none (replicate 256 0) (blank_at 256) y x;
+}
 
--- the roads of two lists
-module _ (from to : List ℕ) (l : List ℕ) where
-  pub listed_start : Gains (listed from to 0) l l
-  unfolding any_below
-  listed_start = gains_none (listed from to 0) l (λ x y. refl)
+told_more : {l m l' m' : List ℕ} (zs : List (ℕ × ℕ)) (z : ℕ × ℕ) → Told (among zs) l m → Gains (single z.0 z.1) l l' → Gains (single z.1 z.0) m m'
+    → Told (among (zs ++ (z ∷ []))) l' m'
+told_more zs z t g h = record {
+  forth = λ x y hx hy. g.has x y hx hy ∙ ap (λ r. r || single z.0 z.1 x y) (t.forth x y hx hy) ∙ sym (among_push zs z x y);
+  back = λ x y hx hy. h.has y x hy hx ∙ ap₂ ◌||◌ (t.back x y hx hy) (and_comm (eqb z.1 y) (eqb z.0 x)) ∙ sym (among_push zs z x y);
+}
 
-  pub listed_next : {l₁ l₂ : List ℕ} (i a b : ℕ) → Gains (listed from to i) l l₁ → a ≡ get_or from i 0 → b ≡ get_or to i 0 → Gains (single a b) l₁ l₂
-      → Gains (listed from to (i + 1)) l l₂
-  unfolding any_below
-  listed_next i a b g ea eb h = gains_then (listed from to (i + 1)) g h (λ x y. rw (add-one i, ea, eb))
+-- what calls leave that add a pair each
+pub told_through : {F N : Type 0} (R : F → ℕ × ℕ → F → Type 0) (zs : List (ℕ × ℕ)) (f g : F) → FoldsTo R f zs g → (name name_back : F → N) (roads broads : F → List ℕ)
+    → ((f : F) (z : ℕ × ℕ) (g : F) → R f z g → (name g ≡ name f) × (name_back g ≡ name_back f) × Gains (single z.0 z.1) (roads f) (roads g) × Gains (single z.1 z.0) (broads f) (broads g))
+    → roads f ≡ replicate 256 0 → broads f ≡ replicate 256 0 → {l m : List ℕ} → (name f ≡ name g → l ≡ roads g) → (name_back f ≡ name_back g → m ≡ broads g)
+    → Told (among zs) l m
+told_through {F} R zs f g ran name name_back roads broads step blank blank_back left left_back =
+    rw (left (sym kept.0), left_back (sym kept.1)) kept.2
+  where
+    kept : (name g ≡ name f) × (name_back g ≡ name_back f) × Told (among zs) (roads g) (broads g)
+    kept =
+        chained_keeps R (λ zs g. (name g ≡ name f) × (name_back g ≡ name_back f) × Told (among zs) (roads g) (broads g))
+        (λ zs q z v j r. let s = step q z v r in (s.0 ∙ j.0, s.1 ∙ j.1, told_more zs z j.2 s.2 s.3)) zs f g (refl, refl, told_none blank blank_back) ran
 
--- whether a place is bare
-module _ (l : List ℕ) (a : ℕ) where
-  pub bare_zero : get_or l a 0 ≡ 0 → get_or l (128 + a) 0 ≡ 0 → bare l a ≡ true
-  bare_zero e f = by (any_below 128 (road_b l a)) refl
+-- the pairs of a plan
+module _ (p : Plan) (w : WellFormed p) where
+  among_roads : (n x y : ℕ) → among (road_pairs p n) x y ≡ any_below n (is_road p x y)
+  unfolding among road_pairs any_below
+  among_roads zero x y = refl
+  among_roads (suc n) x y = among_push (road_pairs p n) _ x y ∙ ap (λ r. r || is_road p x y n) (among_roads n x y)
+
+  abbrev seen : ℕ → ℕ → ℕ → Bool
+  seen n x y = has_road p x y || (eqb x y && (ltb x n && not (leaves p x)))
+
+  -- one place more, which changes what is told of that place alone
+  next : (n : ℕ) (free : Bool) → not (leaves p n) ≡ free → (x y : ℕ) → seen n x y || (single n n x y && free) ≡ seen (suc n) x y
+  next n free is x y = by (ℕ_discrete n x) (dec_lt x n)
     where
-      none : (b : ℕ) → b < 128 → Dec (b < 64) → road_b l a b ≡ false
-      none b h (yes low) = road_low l a b low ∙ ap (λ m. has_bit m b) e ∙ has_none b
-      none b h (no high) =
-          let up : b ≡ 64 + (b - 64) = omega arith in
-          ap (road_b l a) up ∙ road_high l a (b - 64) (omega arith) ∙ ap (λ m. has_bit m (b - 64)) f ∙ has_none (b - 64)
+      by : Dec (n ≡ x) → Dec (x < n) → seen n x y || (single n n x y && free) ≡ seen (suc n) x y
+      by (yes e) d = rw (← is, ← e, le-ltb n n (omega arith), lt-ltb n (suc n) (omega arith), eq-eqb n n refl, and-false (eqb n y), or-false)
+      by (no e) (yes d) = rw (ne_eqb n x e, lt-ltb x n d, lt-ltb x (suc n) (omega arith), or-false)
+      by (no e) (no d) = rw (ne_eqb n x e, le-ltb x n (omega arith), le-ltb x (suc n) (omega arith), or-false)
 
-      by : (t : Bool) → any_below 128 (road_b l a) ≡ t → not t ≡ true
-      by false _ = refl
-      by true g = let m = any_elim (road_b l a) 128 g in absurd (false_not_true m.2 (none m.0 m.1 (dec_lt m.0 64)))
-
-  -- a road leaves it
-  left : (b : ℕ) → b < 128 → road_b l a b ≡ true → bare l a ≡ false
-  left b h r = rw (any_intro (road_b l a) 128 b h r)
-
-  pub bare_low : (get_or l a 0 ≡ 0 → ⊥) → get_or l a 0 < 2 ^ 64 → bare l a ≡ false
-  bare_low some h =
-      let low = lowest_set 64 (get_or l a 0) some h in
-      left (count_trailing_zeros 64 (get_or l a 0)) (omega (arith, low.1)) (road_low l a (count_trailing_zeros 64 (get_or l a 0)) low.1 ∙ eq-eqb _ 1 low.0)
-
-  pub bare_high : (get_or l (128 + a) 0 ≡ 0 → ⊥) → get_or l (128 + a) 0 < 2 ^ 64 → bare l a ≡ false
-  bare_high some h =
-      let low = lowest_set 64 (get_or l (128 + a) 0) some h in
-      left (64 + count_trailing_zeros 64 (get_or l (128 + a) 0)) (omega (arith, low.1))
-      (road_high l a (count_trailing_zeros 64 (get_or l (128 + a) 0)) low.1 ∙ eq-eqb _ 1 low.0)
-
--- place after place; what the places before have got says nothing of this one
-module _ (free : ℕ → Bool) (l : List ℕ) where
-  pub parked_start : Gains (parked free 0) l l
-  parked_start = gains_none (parked free 0) l (λ x y. rw (le-ltb x 0 (omega arith)) (and-false (eqb x y)))
-
-  pub parked_next : {l₁ l₂ : List ℕ} (i : ℕ) (b : Bool) → b ≡ free i → Gains (parked free i) l l₁ → Gains (λ x y. single i i x y && b) l₁ l₂
-      → Gains (parked free (i + 1)) l l₂
-  parked_next i b same g h = gains_then (parked free (i + 1)) g h (λ x y. by x y (ℕ_discrete i x) (dec_lt x i))
+  among_parked : (n x y : ℕ) → among (joined_pairs p n) x y ≡ seen n x y
+  unfolding joined_pairs
+  among_parked zero x y =
+      let count : p.road_count ≡ road_count p = omega (arith, w.roads) in
+      among_roads p.road_count x y ∙ ap (λ n. any_below n (is_road p x y)) count ∙ rw (le-ltb x 0 (omega arith), and-false (eqb x y), or-false) refl
+  among_parked (suc n) x y = by (leaves p n) refl (among_parked n x y)
     where
-      by : (x y : ℕ) → Dec (i ≡ x) → Dec (x < i) → parked free i x y || (single i i x y && b) ≡ parked free (i + 1) x y
-      by x y (yes e) d = rw (same, ← e, le-ltb i i (omega arith), lt-ltb i (i + 1) (omega arith), eq-eqb i i refl, and-false (eqb i y))
-      by x y (no e) (yes d) = rw (ne_eqb i x e, lt-ltb x i d, lt-ltb x (i + 1) (omega arith), or-false)
-      by x y (no e) (no d) = rw (ne_eqb i x e, le-ltb x i (omega arith), le-ltb x (i + 1) (omega arith), or-false)
+      by : (b : Bool) → leaves p n ≡ b → among (joined_pairs p n) x y ≡ seen n x y → among (joined_pairs p n ++ cond (leaves p n) [] ((n, n) ∷ [])) x y ≡ seen (suc n) x y
+      by true e before =
+          rw (e, append-nil)
+          (before ∙ sym (or-false (seen n x y)) ∙ ap (λ r. seen n x y || r) (sym (and-false (single n n x y))) ∙ next n false (ap not e) x y)
+      by false e before =
+          rw e
+          (among_push (joined_pairs p n) (n, n) x y ∙ ap (λ r. r || single n n x y) before ∙ ap (λ r. seen n x y || r) (sym (and-true (single n n x y))) ∙ next n true (ap not e) x y)
 
-pub bare_same : (free : ℕ → Bool) (l l₁ : List ℕ) (i : ℕ) → i < 128 → Gains (parked free i) l l₁ → bare l₁ i ≡ bare l i
-bare_same free l l₁ i h g =
-    ap not (any_same (road_b l₁ i) (road_b l i) 128 (λ y hy. g.has i y h hy ∙ rw (le-ltb i i (omega arith), and-false (eqb i y), or-false)))
-
-pub record Growing (R S : ℕ → ℕ → Bool) (i n : ℕ) (roads₀ broads₀ roads broads : List ℕ) : Type 0 where
-  pub few : i ≤ n
-  pub long : length roads ≡ length roads₀
-  pub long_back : length broads ≡ length broads₀
-  pub forth : Gains R roads₀ roads
-  pub back : Gains S broads₀ broads
+  pub told_joins : {roads broads : List ℕ} → Told (among (pairs p)) roads broads → Told (joins p) roads broads
+  unfolding joins
+  told_joins t = record {
+    forth = λ x y hx hy. t.forth x y hx hy ∙ among_parked p.places x y;
+    back = λ x y hx hy. t.back x y hx hy ∙ among_parked p.places x y;
+  }

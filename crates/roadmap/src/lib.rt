@@ -3,55 +3,30 @@
 
 pub mod words;
 
-ghost use Rattle.std.specs.Prelude.{◌≡◌, ◌+◌, ◌≤◌, ◌<◌, length, get_or, set};
-ghost use Rattle.base.specs.Marks.{marks};
-ghost use Rattle.automata.specs.WellFormed.{Below};
+ghost use Rattle.std.specs.Prelude.{◌≡◌, ℕ, ◌+◌, ◌≤◌, ◌<◌, length};
+ghost use Rattle.std.specs.List.{FoldsTo};
 ghost use Rattle.plan.specs.WellFormed.{WellFormed};
-ghost use Rattle.roadmap.specs.Chart.{road_cell, park_cell, no_exit, charted};
+ghost use Rattle.roadmap.specs.Chart.{charted};
+ghost use Rattle.roadmap.specs.Joined.{AtPair, pairs};
 
 use plan::Plan;
 
-// Marks the roads in the table that begins at `at`, and in `exits` the places that they leave.
-fn mark_roads(
-    from: &[u8; 1024],
-    to: &[u8; 1024],
-    count: usize,
-    at: usize,
-    table: &mut [u8],
-    exits: &mut [u8],
-)
-    requires { (count ≤ 1024) × (at + 16384 ≤ length table.old) × (length exits.old ≡ 128) × Below 128 from.now × Below 128 to.now }
-    ensures { (table.new ≡ marks (road_cell from.now to.now at) count table.old) × (exits.new ≡ marks (λ i. get_or from.now i 0) count exits.old) }
+// Calls `join` with each two places that are joined, one after the other: along each road, and with a place twice where no road leaves it.
+fn each_joined<F: FnMut(usize, usize)>(p: &Plan, join: &mut F)
+    requires well_formed { WellFormed p.now }
+    requires ready { (xs : _) (f : F) → FoldsTo (AtPair F.step) join.old xs f → (a b : ℕ) → a < 128 → b < 128 → F.pre f a b }
+    ensures { FoldsTo (AtPair F.step) join.old (pairs p.now) join.new }
 {
-    let mut i = 0;
-    while i < count {
-        let u = from[i] as usize;
-        let v = to[i] as usize;
-        table[at + (u * 128 + v)] = 1;
-        exits[u] = 1;
-        i += 1;
+    let mut exits = [false; 128];
+    for road in &p.roads[..p.road_count as usize] {
+        let a = usize::from(road.from);
+        exits[a] = true;
+        join(a, usize::from(road.to));
     }
-}
-
-// Marks that place u leads to itself, where no road leaves it.
-fn park(exits: &[u8], u: usize, at: usize, table: &mut [u8])
-    requires { (u < 128) × (length exits.now ≡ 128) × (at + 16384 ≤ length table.old) }
-    ensures { table.new ≡ set table.old (park_cell (no_exit exits.now) at (length table.old) u) 1 }
-{
-    if exits[u] == 0 {
-        table[at + (u * 128 + u)] = 1;
-    }
-}
-
-// The same of every place.
-fn park_all(exits: &[u8], places: usize, at: usize, table: &mut [u8])
-    requires { (places ≤ 128) × (length exits.now ≡ 128) × (at + 16384 ≤ length table.old) }
-    ensures { table.new ≡ marks (park_cell (no_exit exits.now) at (length table.old)) places table.old }
-{
-    let mut u = 0;
-    while u < places {
-        park(exits, u, at, table);
-        u += 1;
+    for (a, has_exit) in exits[..p.places as usize].iter().enumerate() {
+        if !*has_exit {
+            join(a, a);
+        }
     }
 }
 
@@ -61,9 +36,8 @@ pub fn chart(p: Plan, at: usize, table: &mut [u8])
     requires { WellFormed p × (at + 16384 ≤ length table.old) }
     ensures { table.new ≡ charted p at table.old }
 {
-    let mut exits = [0u8; 128];
-    let from = p.from;
-    let to = p.to;
-    mark_roads(&from, &to, p.roads as usize, at, table, &mut exits);
-    park_all(&exits, p.places as usize, at, table);
+    let mut mark = |u: usize, v: usize| {
+        table[at + (u * 128 + v)] = 1;
+    };
+    each_joined(&p, &mut mark);
 }

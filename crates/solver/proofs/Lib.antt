@@ -1,3 +1,2 @@
 -- What the parts ask of one another.
 pub mod Steps
-pub mod Desks

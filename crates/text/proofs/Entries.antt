@@ -7,8 +7,8 @@
 --   ran_bad, ran_good         == the list, by the number behind those
 --   no_end_past, ends_inside  == no line ends past the text
 --   list_empty, list_entries  == a list is empty where its line ends at once, else its entries
---   list_fault, list_keyless, list_bad, list_good
---                             == a line that holds a list: by the line before it, its key and its list
+--   list_keyless, list_bad, list_good
+--                             == a line that holds a list, by its key and its list
 use mathlib.Core.Path.{◌≡◌, refl, sym, ap, ◌∙◌}
 use mathlib.Core.Bool.{Bool, true, false, ◌&&◌}
 use mathlib.Core.List.{List, [], ◌∷◌, ◌++◌, append_assoc}
@@ -17,21 +17,13 @@ use native.Mathlib.Omega.{arith}
 use borrow.Author.Tests.{eqb-true, ltb-true, ltb-false}
 use lib.ListN.{length, get_or, length-append, get_or-eq_default}
 use lib.Dec.{ltb, eqb}
-use Rattle.text.specs.Scan.{key_at, number_at, value_of, cap}
-use Rattle.text.specs.Line.{pair, bad_form, judged}
-use Rattle.text.specs.List.{Items, items, bad, ahead, entries, items_at, under, judged_list, unlisted, list_line}
+use Rattle.std.specs.Prelude.{Option, Some, None, Err}
+use Rattle.text.specs.Scan.{Number, key_at, number_at, value_of, cap}
+use Rattle.text.specs.Line.{pair, bad_form, judged, told}
+use Rattle.text.specs.List.{Items, items, bad, ahead, entries, items_at, under, judged_list, list_from, ListLine}
 use Rattle.text.specs.Runs.{in_front, Ran, listing}
-use Rattle.text.specs.declared.read.Number.{Number}
-use Rattle.text.specs.declared.read.Number.TheVariants.{Value, Bad}
-use Rattle.text.specs.declared.fault.Fault.{Fault}
-use Rattle.text.specs.declared.line.Numbers.{Numbers}
-use Rattle.text.specs.declared.line.Cursor.{Cursor}
-use Rattle.text.specs.declared.line.Line.{Line}
-use Rattle.text.specs.declared.line.Line.TheVariants as line
-use Rattle.text.specs.declared.list.ListLine.{ListLine}
 use Rattle.text.specs.declared.list.Run.{Run}
-use Rattle.text.specs.declared.list.Listing.{Listing}
-use Rattle.text.specs.declared.list.Listing.TheVariants as found
+use Rattle.text.specs.declared.list.Span.{Span}
 use Rattle.text.proofs.Held.{Told, held_told, held_bad}
 use Rattle.text.proofs.Lines.{same_below}
 use Rattle.text.proofs.Lists.{under_append}
@@ -61,11 +53,11 @@ pub record Passed (s : List ℕ) (at bound count : ℕ) (fit : Bool) (next : ℕ
   pub same : entries (length s) s at ≡ in_front numbers (entries (length s - count) s next)
 
 -- n is the number at index i, held
-told : (s : List ℕ) (i e : ℕ) (n : Number) → n ≡ cap (number_at s i e) → (x next : ℕ) → n ≡ Value x next → Told (number_at s i e) x next
-told s i e n h x next k = held_told (number_at s i e) n (record { same = h }) x next k
+held_at : (s : List ℕ) (i e : ℕ) (n : Number) → n ≡ cap (number_at s i e) → (x next : ℕ) → n ≡ Some (x, next) → Told (number_at s i e) x next
+held_at s i e n h x next k = held_told (number_at s i e) n h x next k
 
-none : (s : List ℕ) (i e : ℕ) (n : Number) → n ≡ cap (number_at s i e) → n ≡ Bad → number_at s i e ≡ Bad
-none s i e n h k = held_bad (number_at s i e) n (record { same = h }) k
+none : (s : List ℕ) (i e : ℕ) (n : Number) → n ≡ cap (number_at s i e) → n ≡ None → number_at s i e ≡ None
+none s i e n h k = held_bad (number_at s i e) n h k
 
 module _ (s : List ℕ) (at bound : ℕ) where
   pub passed_start : Passed s at bound 0 true at
@@ -83,11 +75,11 @@ module _ (s : List ℕ) (at bound : ℕ) where
       left : length s - count ≡ suc (length s - (count + 1))
       left = omega arith
 
-      pub passed_more : bound ≤ 4000000000 → (x i : ℕ) → n ≡ Value x i → (t : Bool) → t ≡ (fit && ltb x bound) → Passed s at bound (count + 1) t i
+      pub passed_more : bound ≤ 4000000000 → (x i : ℕ) → n ≡ Some (x, i) → (t : Bool) → t ≡ (fit && ltb x bound) → Passed s at bound (count + 1) t i
       unfolding entries
       passed_more b x i e t f =
           let v = value_of (number_at s next 44) in
-          let r = told s next 44 n k x i e in
+          let r = held_at s next 44 n k x i e in
           let test = (same_below v x bound r.held b).test in
           record {
             numbers = p.numbers ++ (v ∷ []);
@@ -97,7 +89,7 @@ module _ (s : List ℕ) (at bound : ℕ) where
             same = p.same ∙ rw (left, r.is) (front_ahead p.numbers v (entries (length s - (count + 1)) s i));
           }
 
-      pub passed_end : n ≡ Bad → Ran s at bound (record { count = count; fit = fit; next = next })
+      pub passed_end : n ≡ None → Ran s at bound (record { count = count; fit = fit; next = next })
       unfolding entries
       passed_end e = record {
         numbers = p.numbers;
@@ -107,25 +99,25 @@ module _ (s : List ℕ) (at bound : ℕ) where
         same = p.same ∙ rw (left, none s next 44 n k e);
       }
 
-    pub passed_all : length s ≤ count → Ran s at bound (record { count = count; fit = fit; next = next })
+    pub passed_all : length s ≤ count → Ran s at bound (record { count = length s; fit = fit; next = next })
     unfolding entries
     passed_all h = record {
       numbers = p.numbers;
-      many = p.many;
-      few = p.few;
+      many = omega (arith, p.many, p.few);
+      few = omega arith;
       fit = p.fits;
       same = let e : length s - count ≡ 0 = omega (arith, p.few) in p.same ∙ rw e;
     }
 
   module _ (r : Run) (p : Ran s at bound r) (n : Number) (k : n ≡ cap (number_at s r.next 10)) where
-    pub ran_bad : n ≡ Bad → found.Bad ≡ listing bound (entries (length s) s at)
+    pub ran_bad : n ≡ None → None ≡ listing bound (entries (length s) s at)
     ran_bad e = rw (p.same, none s r.next 10 n k e)
 
-    pub ran_good : bound ≤ 4000000000 → (x i : ℕ) → n ≡ Value x i → (t : Bool) → t ≡ (r.fit && ltb x bound)
-        → found.Items (record { count = r.count + 1; fit = t; next = i }) ≡ listing bound (entries (length s) s at)
+    pub ran_good : bound ≤ 4000000000 → (x i : ℕ) → n ≡ Some (x, i) → (t : Bool) → t ≡ (r.fit && ltb x bound)
+        → Some (record { count = r.count + 1; fit = t; next = i }) ≡ listing bound (entries (length s) s at)
     ran_good b x i e t f =
         let v = value_of (number_at s r.next 10) in
-        let g = told s r.next 10 n k x i e in
+        let g = held_at s r.next 10 n k x i e in
         let test = (same_below v x bound g.held b).test in
         let many : r.count + 1 ≡ length (p.numbers ++ (v ∷ [])) = omega (arith, length-append p.numbers (v ∷ []), p.many) in
         let fits : t ≡ under bound (p.numbers ++ (v ∷ [])) = f ∙ rw (test, p.fit) (sym (under_one bound v p.numbers)) in
@@ -143,7 +135,7 @@ module _ (s : List ℕ) (at : ℕ) where
       by false h = let z : ◌≡◌ {A = ℕ} 0 10 = sym (get_or-eq_default s 0 (ltb-false at (length s) h)) ∙ eqb-true (get_or s at 0) 10 e in absurd (omega arith)
 
   module _ (bound : ℕ) where
-    pub list_empty : eqb (get_or s at 0) 10 ≡ true → found.Items (record { count = 0; fit = true; next = at + 1 }) ≡ listing bound (items_at s at)
+    pub list_empty : eqb (get_or s at 0) 10 ≡ true → Some (record { count = 0; fit = true; next = at + 1 }) ≡ listing bound (items_at s at)
     unfolding items_at under
     list_empty e = rw e
 
@@ -151,35 +143,30 @@ module _ (s : List ℕ) (at : ℕ) where
     unfolding items_at
     list_entries e = rw e
 
-module _ (s : List ℕ) (l : Line) (key : List ℕ) (bound : ℕ) where
-  pub list_fault : (f : Fault) → l ≡ line.Fault f → unlisted l ≡ list_line s l key bound
-  unfolding list_line
-  list_fault f p = rw p
+module _ (s : List ℕ) (at : ℕ) (key : List ℕ) (bound : ℕ) where
+  abbrev given : ListLine
+  given = list_from s at key bound
 
-  module _ (xs : Numbers) (c : Cursor) (p : l ≡ line.Numbers xs c) (n : Number) (k : n ≡ key_at s c.at key) where
-    pub list_keyless : n ≡ Bad → unlisted (bad_form s c.at) ≡ list_line s l key bound
-    unfolding list_line
-    list_keyless e = rw (p, ← k, e)
+  pub list_keyless : key_at s at key ≡ None → Err (bad_form s at) ≡ told given.line given.list
+  list_keyless e = rw e
 
-    module _ (v at : ℕ) (e : n ≡ Value v at) (f : Listing) (g : f ≡ listing bound (items_at s at)) where
-      pub list_bad : f ≡ found.Bad → unlisted (bad_form s c.at) ≡ list_line s l key bound
-      unfolding list_line
-      list_bad z = rw (p, ← k, e) (by (items_at s at) (sym z ∙ g))
-        where
-          by : (i : Items) → found.Bad ≡ listing bound i → unlisted (bad_form s c.at) ≡ judged_list s c.at at i bound
-          by (items vs next) h = let z : ◌≡◌ {A = ℕ} 0 1 = cc in absurd (omega arith)
-          by bad h = refl
+  module _ (i : ℕ) (e : key_at s at key ≡ Some i) (f : Option Run) (g : f ≡ listing bound (items_at s i)) where
+    pub list_bad : f ≡ None → Err (bad_form s at) ≡ told given.line given.list
+    list_bad z = rw e (by (items_at s i) (sym z ∙ g))
+      where
+        by : (l : Items) → None ≡ listing bound l
+            → Err (bad_form s at) ≡ told (judged_list s at i l bound).line (judged_list s at i l bound).list
+        by (items vs next) h = let z : ◌≡◌ {A = ℕ} 0 1 = cc in absurd (omega arith)
+        by bad h = refl
 
-      pub list_good : (r : Run) → f ≡ found.Items r
-          → ◌≡◌ {A = ListLine}
-          (record { line = judged s c.at r.next r.fit (pair 0 0); list = record { at = at; count = r.count } })
-          (list_line s l key bound)
-      unfolding list_line
-      list_good r z = rw (p, ← k, e) (by (items_at s at) (sym z ∙ g))
-        where
-          by : (i : Items) → found.Items r ≡ listing bound i
-              → ◌≡◌ {A = ListLine}
-              (record { line = judged s c.at r.next r.fit (pair 0 0); list = record { at = at; count = r.count } })
-              (judged_list s c.at at i bound)
-          by (items vs next) h = let w : r ≡ record { count = length vs; fit = under bound vs; next = next } = cc h in rw w
-          by bad h = let z : ◌≡◌ {A = ℕ} 0 1 = cc in absurd (omega arith)
+    pub list_good : (r : Run) → f ≡ Some r → judged s at r.next r.fit (record { at = i; count = r.count }) ≡ told given.line given.list
+    list_good r z = rw e (by (items_at s i) (sym z ∙ g))
+      where
+        test : (t : Bool) (next : ℕ) (l : Span) → judged s at next t l ≡ told (judged s at next t (pair 0 0)) l
+        test true next l = refl
+        test false next l = refl
+
+        by : (l : Items) → Some r ≡ listing bound l
+            → judged s at r.next r.fit (record { at = i; count = r.count }) ≡ told (judged_list s at i l bound).line (judged_list s at i l bound).list
+        by (items vs next) h = let w : r ≡ record { count = length vs; fit = under bound vs; next = next } = cc h in rw w (test (under bound vs) next _)
+        by bad h = let z : ◌≡◌ {A = ℕ} 0 1 = cc in absurd (omega arith)

@@ -13,3 +13,4 @@ pub mod KeyLines
 pub mod Figures
 pub mod ReadLines
 pub mod StoodLines
+pub mod Told

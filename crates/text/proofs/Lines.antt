@@ -3,29 +3,33 @@
 --   same_below              == a test against a bound of at most 4,000,000,000 does not tell a held value from the exact one, and a
 --                              number that passes it was not held
 --   one_held                == so a line of good form is judged by held values as by the exact ones
---   one_fault, one_bad, one_good == what a line of one number is: by the line before it, and by its number
+--   one_bad                 == a line of one number has a bad form where there is no number
+--   from_bad, from_good     == what the line at an index is, by its number
 --   Fails s l f             == the fault f is that of the line l, or of a line of s
 --   Led s Q l r             == behind the line l comes the line r: a fault, or, where l has none, numbers of which Q holds
 --   closed_led, low         == what a line of any kind leads to, by its last number; and what is then below a bound
---   one_led, one_is         == a line of one number leads to one in its range, and is read as promised
-use mathlib.Core.Path.{◌≡◌, refl, sym, subst, ◌∙◌}
+--   one_led, one_most       == a line of one number leads to one in its range
+--   one_none, one_some      == and is read as promised
+--   Ended l x v c           == lines that end with l, read as x, are told as v, with the cursor c behind them
+--   told_ok, told_err, told_fault
+--                           == how lines end that are told with a cursor, or with a fault; and back
+--   one_ok, one_err         == so for a line of one number
+use mathlib.Core.Path.{◌≡◌, refl, sym, ap, ◌∙◌}
 use mathlib.Core.Bool.{Bool, true, false, cond}
 use mathlib.Core.List.{List}
 use Prim.Native.Nat.{ℕ, ◌-◌, ◌≤◌, ◌<◌, min}
 use native.Mathlib.Omega.{arith}
 use lib.Dec.{ltb}
 use borrow.Author.Tests.{ltb-true, ltb-false, lt-ltb, le-ltb}
+use Rattle.std.specs.Prelude.{Some, None, Result, Ok, Err}
 use Rattle.text.specs.Fault as fault
-use Rattle.text.specs.Scan.{key_at, next_number, value_of, line_at}
-use Rattle.text.specs.Line.{pair, bad_form, judged, closed, within, line_of_one, numbers_of, OneRead, good}
+use Rattle.text.specs.Scan.{Number, key_at, first_number, value_of, cap, line_at}
+use Rattle.text.specs.Line.{Line, pair, bad_form, judged, closed, within, one_from, line_of_one, numbers_of, first_of, top, told, OneRead, good}
 use Rattle.text.specs.declared.fault.Fault.{Fault}
-use Rattle.text.specs.declared.read.Number.{Number}
-use Rattle.text.specs.declared.read.Number.TheVariants.{Value, Bad}
 use Rattle.text.specs.declared.line.Numbers.{Numbers}
 use Rattle.text.specs.declared.line.Cursor.{Cursor}
-use Rattle.text.specs.declared.line.Line.{Line}
-use Rattle.text.specs.declared.line.Line.TheVariants as line
-use Rattle.text.proofs.Held.{Told}
+use Rattle.text.proofs.Held.{Told, held_told, held_bad}
+use Rattle.text.proofs.Told.{told_judged}
 
 pub within_both : (x low bound : ℕ) → within x low bound ≡ true → (low ≤ x) × (x < bound)
 unfolding within
@@ -47,7 +51,7 @@ same_below v x bound e h = by (ltb v bound) refl
     by true p = let l = ltb-true v bound p in record { test = lt-ltb x bound (omega arith) ∙ sym p; passed = λ q. omega arith }
     by false p = let l = ltb-false v bound p in record { test = le-ltb x bound (omega arith) ∙ sym p; passed = λ q. omega (arith, ltb-true v bound q) }
 
-pub judged_same : (s : List ℕ) (at next : ℕ) (t u : Bool) (xs ys : Numbers) → t ≡ u → (u ≡ true → xs ≡ ys)
+pub judged_same : {T : Type 0} (s : List ℕ) (at next : ℕ) (t u : Bool) (xs ys : T) → t ≡ u → (u ≡ true → xs ≡ ys)
     → judged s at next t xs ≡ judged s at next u ys
 judged_same s at next t true xs ys e f = rw (e, f refl)
 judged_same s at next t false xs ys e f = rw e
@@ -70,58 +74,118 @@ module _ (s : List ℕ) (at next : ℕ) where
           let l = ltb-false v low p in let m = ltb-true x low q in
           rw (le-ltb v bound (omega arith))
 
--- a line that stands behind one with a fault
-module _ (s : List ℕ) (l : Line) (key : List ℕ) (f : Fault) (p : l ≡ line.Fault f) where
-  pub one_fault : (low bound : ℕ) → l ≡ line_of_one s l key low bound
-  unfolding line_of_one
-  one_fault low bound = rw p
-
 -- a line that stands behind one without a fault
-module _ (s : List ℕ) (l : Line) (key : List ℕ) (xs : Numbers) (c : Cursor) (p : l ≡ line.Numbers xs c) where
-  abbrev first : ℕ → Number
-  first e = next_number s (key_at s c.at key) e
+pub one_bad : (s : List ℕ) (l : Line) (key : List ℕ) (xs : Numbers) (c : Cursor) → l ≡ Ok (xs, c) → (low bound : ℕ)
+    → first_number s (key_at s c.at key) 10 ≡ None → Err (bad_form s c.at) ≡ line_of_one s l key low bound
+unfolding line_of_one
+one_bad s l key xs c p low bound e = rw (p, e)
 
-  pub one_bad : (low bound : ℕ) → first 10 ≡ Bad → bad_form s c.at ≡ line_of_one s l key low bound
-  unfolding line_of_one
-  one_bad low bound e = rw (p, e)
+-- the number behind a key
+module _ (s : List ℕ) (at : ℕ) (key : List ℕ) where
+  abbrev first : Number
+  first = first_number s (key_at s at key) 10
 
-  pub one_good : (low bound x n : ℕ) → bound ≤ 4000000000 → Told (first 10) x n
-      → judged s c.at n (within x low bound) (pair x 0) ≡ line_of_one s l key low bound
-  unfolding line_of_one
-  one_good low bound x n h a = one_held s c.at n (value_of (first 10)) x low bound a.held h ∙ rw (p, a.is)
+  from_bad : (low bound : ℕ) → first ≡ None → Err (bad_form s at) ≡ one_from s at key low bound
+  from_bad low bound e = rw e
+
+  from_good : (low bound x n : ℕ) → bound ≤ 4000000000 → Told first x n
+      → judged s at n (within x low bound) (pair x 0) ≡ one_from s at key low bound
+  from_good low bound x n h a = one_held s at n (value_of first) x low bound a.held h ∙ rw a.is
 
 -- what a line leads to
 pub data Fails (s : List ℕ) (l : Line) (f : Fault) : Type 0 where
-  before : l ≡ line.Fault f → Fails s l f
+  before : l ≡ Err f → Fails s l f
   here : (at : ℕ) → fault.line_of f ≡ line_at s at → Fails s l f
 
 abbrev pub Led : List ℕ → (Numbers → Type 0) → Line → Line → Type 0
-Led s Q l (line.Numbers xs c) = (good l ≡ true) × Q xs
-Led s Q l (line.Fault f) = Fails s l f
+Led s Q l (Ok (xs, c)) = (good l ≡ true) × Q xs
+Led s Q l (Err f) = Fails s l f
 
 abbrev pub First : ℕ → ℕ → Numbers → Type 0
 First low bound xs = within xs.first low bound ≡ true
 
 module _ (s : List ℕ) (Q : Numbers → Type 0) (l : Line) where
   pub closed_led : good l ≡ true → (at : ℕ) (n : Number) (t : Bool) (xs : Numbers) → (t ≡ true → Q xs) → Led s Q l (closed s at n t xs)
-  closed_led g at Bad t xs f = here at refl
-  closed_led g at (Value v i) true xs f = (g, f refl)
-  closed_led g at (Value v i) false xs f = here at refl
+  closed_led g at None t xs f = here at refl
+  closed_led g at (Some (v, i)) true xs f = (g, f refl)
+  closed_led g at (Some (v, i)) false xs f = here at refl
 
   pub low : (f : Numbers → ℕ) (bound : ℕ) → f (pair 0 0) ≡ 0 → ((xs : Numbers) → Q xs → f xs < bound) → (r : Line) → Led s Q l r
       → f (numbers_of r) ≤ bound - 1
-  low f bound z h (line.Numbers xs c) g = omega (arith, h xs g.1)
-  low f bound z h (line.Fault e) g = omega (arith, z)
+  low f bound z h (Ok (xs, c)) g = omega (arith, h xs g.1)
+  low f bound z h (Err e) g = omega (arith, z)
 
 module _ (s : List ℕ) where
   pub one_led : (l : Line) (key : List ℕ) (low bound : ℕ) → Led s (First low bound) l (line_of_one s l key low bound)
   unfolding line_of_one
-  one_led (line.Fault f) key low bound = before refl
-  one_led (line.Numbers xs c) key low bound =
-      closed_led s (First low bound) (line.Numbers xs c) refl c.at (next_number s (key_at s c.at key) 10) _ _ (λ e. e)
+  one_led (Err f) key low bound = before refl
+  one_led (Ok (xs, c)) key low bound =
+      closed_led s (First low bound) (Ok (xs, c)) refl c.at (first_number s (key_at s c.at key) 10) _ _ (λ e. e)
 
 module _ (s : List ℕ) (l : Line) (key : List ℕ) where
-  pub one_is : (least bound : ℕ) (r : Line) → r ≡ line_of_one s l key least bound → OneRead (line_of_one s l key least bound) bound r
-  one_is least bound r e =
-      let led = subst (λ x. Led s (First least bound) l x) (sym e) (one_led s l key least bound) in
-      record { same = e; first_low = low s (First least bound) l (λ xs. xs.first) bound refl (λ xs h. (within_both xs.first least bound h).1) r led }
+  pub one_most : (least bound : ℕ) → first_of (line_of_one s l key least bound) ≤ bound - 1
+  one_most least bound =
+      low s (First least bound) l (λ xs. xs.first) bound refl (λ xs h. (within_both xs.first least bound h).1) _ (one_led s l key least bound)
+
+module _ (s : List ℕ) (at : ℕ) (key : List ℕ) (least bound : ℕ) where
+  abbrev given : Line
+  given = one_from s at key least bound
+
+  abbrev value_in : Result (ℕ × Cursor) Fault → ℕ
+  value_in (Ok (x, c)) = x
+  value_in (Err f) = 0
+
+  -- what a line of one number is read as is in its range
+  one_low : (l : Line) → Led s (First least bound) top l → (x : ℕ) (c : Cursor) → told l (first_of l) ≡ Ok (x, c) → x < bound
+  one_low (Ok (xs, d)) g x c e = let y : xs.first ≡ x = ap value_in e in omega (arith, (within_both xs.first least bound g.1).1, y)
+  one_low (Err f) g x c e = let z : ◌≡◌ {A = ℕ} 0 1 = cc in absurd (omega arith)
+
+  one_is : (r : Result (ℕ × Cursor) Fault) → r ≡ told given (first_of given) → OneRead given bound r
+  one_is r e = record {
+    same = e;
+    low = λ x c h.
+        one_low given (closed_led s (First least bound) top refl at (first_number s (key_at s at key) 10) _ _ (λ e. e)) x c (sym e ∙ h);
+  }
+
+  -- n is the number behind the key, held
+  module _ (n : Number) (k : n ≡ cap (first_number s (key_at s at key) 10)) where
+    pub one_none : n ≡ None → OneRead given bound (Err (bad_form s at))
+    one_none e = one_is _ (rw (← from_bad s at key least bound (held_bad _ n k e)))
+
+    pub one_some : bound ≤ 4000000000 → (x i : ℕ) → n ≡ Some (x, i) → OneRead given bound (judged s at i (within x least bound) x)
+    one_some h x i e =
+        one_is _ (told_judged s at i (within x least bound) x
+        ∙ ap (λ l. told l (first_of l)) (from_good s at key least bound x i h (held_told _ n k x i e)))
+
+-- lines that end with l and are told as v end at c
+pub record Ended {T : Type 0} (l : Line) (x v : T) (c : Cursor) : Type 0 where
+  pub numbers : Numbers
+  pub line : l ≡ Ok (numbers, c)
+  pub same : x ≡ v
+
+pub told_ok : {T : Type 0} (l : Line) (x v : T) (c : Cursor) → told l x ≡ Ok (v, c) → Ended l x v c
+told_ok {T} (Ok (xs, d)) x v c e =
+    let p : ◌≡◌ {A = T × Cursor} (x, d) (v, c) = cc e in
+    record { numbers = xs; line = ap (λ p. Ok (xs, p.1)) p; same = ap (λ p. p.0) p }
+told_ok (Err f) x v c e = let z : ◌≡◌ {A = ℕ} 0 1 = cc in absurd (omega arith)
+
+pub told_err : {T : Type 0} (l : Line) (x : T) (f : Fault) → told l x ≡ Err f → l ≡ Err f
+told_err (Ok (xs, c)) x f e = let z : ◌≡◌ {A = ℕ} 0 1 = cc in absurd (omega arith)
+told_err (Err g) x f e = let p : g ≡ f = cc e in rw p
+
+pub told_fault : {T : Type 0} (l : Line) (x : T) (f : Fault) → l ≡ Err f → Err f ≡ told l x
+told_fault l x f e = rw e
+
+module _ (s : List ℕ) (at : ℕ) (key : List ℕ) (least bound : ℕ) (r : Result (ℕ × Cursor) Fault)
+    (h : OneRead (one_from s at key least bound) bound r) where
+  pub one_err : (f : Fault) → r ≡ Err f → one_from s at key least bound ≡ Err f
+  one_err f e = told_err _ _ f (sym h.same ∙ e)
+
+  pub one_ok : (v : ℕ) (c : Cursor) → r ≡ Ok (v, c) → one_from s at key least bound ≡ Ok (pair v 0, c)
+  one_ok v c e = by (first_number s (key_at s at key) 10) _ (sym h.same ∙ e)
+    where
+      by : (n : Number) (t : Bool) → told (closed s at n t (pair (value_of n) 0)) (first_of (closed s at n t (pair (value_of n) 0))) ≡ Ok (v, c)
+          → closed s at n t (pair (value_of n) 0) ≡ Ok (pair v 0, c)
+      by None t e = let z : ◌≡◌ {A = ℕ} 0 1 = cc in absurd (omega arith)
+      by (Some (w, i)) true e = let p : ◌≡◌ {A = ℕ × Cursor} (w, record { at = i }) (v, c) = cc e in ap (λ p. Ok (pair p.0 0, p.1)) p
+      by (Some (w, i)) false e = let z : ◌≡◌ {A = ℕ} 0 1 = cc in absurd (omega arith)

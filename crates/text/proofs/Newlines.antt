@@ -1,5 +1,5 @@
 -- The state laws of the count of line ends, and that a line's number is at least 1 and at most one above the text's length.
-use mathlib.Core.Path.{◌≡◌}
+use mathlib.Core.Path.{◌≡◌, refl}
 use mathlib.Core.List.{List, [], ◌∷◌}
 use mathlib.Core.Bool.{Bool, true, false, cond}
 use Prim.Native.Nat.{ℕ, suc, ◌+◌, ◌-◌, ◌≤◌, ◌<◌}
@@ -8,7 +8,22 @@ use native.Mathlib.Numerals.{add-one}
 use lib.ListN.{length, take, drop, get_or, drop_of_length-le, length-take}
 use lib.Dec.{eqb}
 use lib.Seq.{drop-cons, take-nil}
+use Rattle.std.specs.List.{count_by}
+use Rattle.std.proofs.lemmas.List.Recursion.{is_count_by}
 use Rattle.text.specs.Scan.{newline, newlines, line_at}
+
+-- the line ends of a text, counted
+pub newlines_count : (d : List ℕ) → newlines d ≡ count_by (λ b. eqb b 10) d
+unfolding newlines
+newlines_count = is_count_by newlines (λ b. eqb b 10) refl (λ b d. one (eqb b 10) (newlines d))
+  where
+    one : (t : Bool) (n : ℕ) → cond t 1 0 + n ≡ cond t (1 + n) n
+    one true n = omega arith
+    one false n = omega arith
+
+pub line_counted : (s : List ℕ) (at n : ℕ) → n ≡ count_by (λ b. eqb b 10) (take at s) → 1 + n ≡ line_at s at
+unfolding line_at
+line_counted s at n e = rw (newlines_count (take at s), e)
 
 pub line_start : (s : List ℕ) (at : ℕ) → line_at s at ≡ 1 + newlines (take (at - 0) (drop 0 s))
 unfolding line_at

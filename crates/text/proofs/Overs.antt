@@ -1,6 +1,7 @@
 -- The laws of writing from the front: a text that is put over other bytes part by part. `left_next` serves every writer.
 --   over_none   == no text changes nothing
 --   over_byte   == one byte put over is a store
+--   over_part   == so is a part that is overwritten, with as many bytes
 --   over_append == two texts one after the other are put over as one
 --   length_over == the length stays
 --   left_start  == all is left where nothing is written
@@ -15,10 +16,11 @@
 --               == a text of three parts: room for the second, room for the third, all written
 use mathlib.Core.Path.{◌≡◌, refl, sym, ◌∙◌}
 use mathlib.Core.List.{List, [], ◌∷◌, ◌++◌, append_assoc}
-use Prim.Native.Nat.{ℕ, ◌+◌, ◌≤◌, ◌<◌}
+use Prim.Native.Nat.{ℕ, ◌+◌, ◌-◌, ◌≤◌, ◌<◌}
 use native.Mathlib.Nat.{add-zero, add_assoc}
 use native.Mathlib.Numerals.{add-one}
 use native.Mathlib.Omega.{arith}
+use borrow.Rule.Slice.PartMut.{put_mid}
 use lib.ListN.{length, take, drop, set, length-append, length-drop, take-append-drop}
 use lib.Seq.{length-take-le, set_split, take-append_seam, drop-append-add, drop-drop}
 use Rattle.text.specs.Over.{over, Wrote, Left}
@@ -30,6 +32,11 @@ over_none b at = rw (add-zero at) (take-append-drop at b)
 pub over_byte : (b : List ℕ) (at x : ℕ) → at < length b → over b at (x ∷ []) ≡ set b at x
 unfolding over
 over_byte b at x h = rw (add-one at) (sym (set_split b at x h))
+
+-- so is a part that is overwritten, with as many bytes
+pub over_part : (b : List ℕ) (at : ℕ) (text new : List ℕ) → new ≡ text → put_mid at (at + length text - at) b new ≡ over b at text
+unfolding over
+over_part b at text new e = let k : at + length text - at ≡ length text = omega arith in rw (k, e, drop-drop (length text) at b)
 
 -- behind what stands before it
 over_behind : (p q w : List ℕ) (n : ℕ) → length p ≡ n → over (p ++ q) n w ≡ p ++ (w ++ drop (length w) q)

@@ -16,9 +16,9 @@ use borrow.Author.Tests.{lt-ltb, le-ltb, le-leb, eq-eqb, ne_eqb}
 use lib.ListN.{length, drop, get_or, length-append, get_or-append}
 use lib.Seq.{get_or-append_seam}
 use lib.Dec.{eqb}
+use Rattle.std.specs.Prelude.{Some, None}
 use Rattle.text.specs.Scan.{is_digit, canonical, digit_count, value, leading, number_at}
 use Rattle.text.specs.Decimal.{decimal}
-use Rattle.text.specs.declared.read.Number.TheVariants.{Value, Bad}
 use Rattle.text.proofs.Decimals.{decimal_small, decimal_more, decimal_each, decimal_some, decimal_lead}
 
 abbrev Digits : List ℕ → Type 0
@@ -97,7 +97,7 @@ module _ (n e : ℕ) (rest : List ℕ) (h : is_digit e ≡ false) where
   whole_longer : length (decimal n) < length whole
   whole_longer = rw (length-append (decimal n)) (omega arith)
 
-  pub read_back : (s : List ℕ) (at : ℕ) → drop at s ≡ whole → number_at s at e ≡ Value n (at + length (decimal n) + 1)
+  pub read_back : (s : List ℕ) (at : ℕ) → drop at s ≡ whole → number_at s at e ≡ Some (n, at + length (decimal n) + 1)
   unfolding number_at leading
   read_back s at k =
       rw (
@@ -111,6 +111,6 @@ module _ (n e : ℕ) (rest : List ℕ) (h : is_digit e ≡ false) where
         decimal_canonical n,
       )
 
-  pub number_other : (s : List ℕ) (at f : ℕ) → drop at s ≡ whole → eqb e f ≡ false → number_at s at f ≡ Bad
+  pub number_other : (s : List ℕ) (at f : ℕ) → drop at s ≡ whole → eqb e f ≡ false → number_at s at f ≡ None
   unfolding number_at leading
   number_other s at f k other = rw (k, whole_count, lt-ltb _ _ whole_longer, get_or-append_seam (decimal n) e rest 0, other)

@@ -23,15 +23,13 @@ use native.Mathlib.Omega.{arith}
 use borrow.Author.Tests.{lt-ltb, le-ltb, eq-eqb, ne_eqb}
 use lib.ListN.{length, drop, get_or, length-append, length-drop, get_or-append}
 use lib.Seq.{drop-drop, drop-append_seam, get_or-drop}
-use Rattle.text.specs.Scan.{starts_with, is_digit, key_at, next_number, number_at}
+use Rattle.std.specs.Prelude.{Some, None, Ok}
+use Rattle.text.specs.Scan.{starts_with, is_digit, key_at, first_number, number_at}
 use Rattle.text.specs.Decimal.{decimal}
 use Rattle.text.specs.KeyLine.{commaed, joined, key_line}
 use Rattle.text.specs.Line.{pair, within, line_of_one, finish}
-use Rattle.text.specs.List.{items, last, entries, items_at, under, list_line, places_of}
-use Rattle.text.specs.declared.read.Number.TheVariants.{Value, Bad}
+use Rattle.text.specs.List.{items, last, entries, items_at, under, ListLine, list_line, places_of}
 use Rattle.text.specs.declared.line.Numbers.{Numbers}
-use Rattle.text.specs.declared.line.Line.TheVariants as line
-use Rattle.text.specs.declared.list.ListLine.{ListLine}
 use Rattle.text.proofs.Decimals.{decimal_some, decimal_first}
 use Rattle.text.proofs.ReadBack.{read_back, number_other}
 use Rattle.text.proofs.KeyLines.{line_length}
@@ -50,7 +48,7 @@ unfolding starts_with
 starts [] rest = refl
 starts (b ∷ key) rest = rw (eq-eqb b b refl) (starts key rest)
 
-pub key_back : (s : List ℕ) (at : ℕ) (key rest : List ℕ) → drop at s ≡ key ++ rest → key_at s at key ≡ Value 0 (at + length key)
+pub key_back : (s : List ℕ) (at : ℕ) (key rest : List ℕ) → drop at s ≡ key ++ rest → key_at s at key ≡ Some (at + length key)
 unfolding key_at
 key_back s at key rest k = rw (k, starts key rest)
 
@@ -59,7 +57,7 @@ module _ (s : List ℕ) (at : ℕ) (key value rest : List ℕ) (k : drop at s �
   unfolding key_line
   parts = k ∙ simp append_assoc
 
-  line-key : key_at s at key ≡ Value 0 (at + length key)
+  line-key : key_at s at key ≡ Some (at + length key)
   line-key = key_back s at key (value ++ (10 ∷ rest)) parts
 
   line_value : drop (at + length key) s ≡ value ++ (10 ∷ rest)
@@ -76,7 +74,7 @@ unfolding within
 within_from_0 x bound h = rw (le-ltb x 0 (omega arith), lt-ltb x bound h)
 
 module _ (s : List ℕ) (at : ℕ) (key : List ℕ) (v : ℕ) (rest : List ℕ) (k : drop at s ≡ key_line key (decimal v) ++ rest) where
-  pub value_back : next_number s (key_at s at key) 10 ≡ Value v (at + length (key_line key (decimal v)))
+  pub value_back : first_number s (key_at s at key) 10 ≡ Some (v, at + length (key_line key (decimal v)))
   unfolding is_digit
   value_back =
       rw (
@@ -86,12 +84,12 @@ module _ (s : List ℕ) (at : ℕ) (key : List ℕ) (v : ℕ) (rest : List ℕ) 
       )
 
   pub one_back : (low bound : ℕ) → within v low bound ≡ true → (xs : Numbers)
-      → line_of_one s (line.Numbers xs (record { at = at })) key low bound
-      ≡ line.Numbers (pair v 0) (record { at = at + length (key_line key (decimal v)) })
+      → line_of_one s (Ok (xs, record { at = at })) key low bound
+      ≡ Ok (pair v 0, record { at = at + length (key_line key (decimal v)) })
   unfolding line_of_one
   one_back low bound fit xs = rw (value_back, fit)
 
-entries_last : (k : ℕ) (s : List ℕ) (at : ℕ) → number_at s at 44 ≡ Bad → entries k s at ≡ last (number_at s at 10)
+entries_last : (k : ℕ) (s : List ℕ) (at : ℕ) → number_at s at 44 ≡ None → entries k s at ≡ last (number_at s at 10)
 unfolding entries
 entries_last zero s at none = refl
 entries_last (suc k) s at none = rw none
@@ -131,9 +129,9 @@ module _ (s : List ℕ) (at : ℕ) (key vs rest : List ℕ) (k : drop at s ≡ k
   line_items = rw (items_back vs s (at + length key) rest (line_value s at key (joined vs) rest k), line_end s at key (joined vs) rest k)
 
   pub list_back : (bound : ℕ) → under bound vs ≡ true → (xs : Numbers)
-      → ◌≡◌ {A = ListLine} (list_line s (line.Numbers xs (record { at = at })) key bound)
+      → ◌≡◌ {A = ListLine} (list_line s (Ok (xs, record { at = at })) key bound)
       (record {
-        line = line.Numbers (pair 0 0) (record { at = at + length (key_line key (joined vs)) });
+        line = Ok (pair 0 0, record { at = at + length (key_line key (joined vs)) });
         list = record { at = at + length key; count = length vs };
       })
   unfolding list_line
@@ -143,6 +141,6 @@ module _ (s : List ℕ) (at : ℕ) (key vs rest : List ℕ) (k : drop at s ≡ k
   places_back = rw line_items
 
 pub finish_back : (s : List ℕ) (at : ℕ) → drop at s ≡ [] → (xs : Numbers)
-    → finish s (line.Numbers xs (record { at = at })) ≡ line.Numbers xs (record { at = at })
+    → finish s (Ok (xs, record { at = at })) ≡ Ok (xs, record { at = at })
 unfolding finish
 finish_back s at k xs = rw (le-ltb at (length s) (omega (arith, length-drop at s, ap length k)))

@@ -3,20 +3,70 @@
 -- every digit gives the exact value held at M (`held`): once above M, a value only grows.
 use mathlib.Core.Path.{◌≡◌, refl, sym, ap, ◌∙◌}
 use mathlib.Core.List.{List, [], ◌∷◌}
-use mathlib.Core.Bool.{Bool, true, false, cond}
+use mathlib.Core.Bool.{Bool, true, false, cond, ◌&&◌}
 use Prim.Native.Nat.{ℕ, ◌+◌, ◌-◌, ◌*◌, ◌≤◌, ◌<◌, min}
 use native.Mathlib.Omega.{arith}
 use native.Mathlib.Numerals.{add-one}
 use native.Mathlib.Nat.{add-zero}
-use lib.ListN.{length, drop, get_or, drop_of_length-le, length-drop}
-use lib.Seq.{drop-cons, get_or-drop}
-use borrow.Author.Tests.{lt-ltb, le-ltb, ltb-false, leb-true, eq-eqb, ne_eqb}
-use Rattle.text.specs.Scan.{is_digit, canonical, digit_count, value, leading, number_at, cap}
-use Rattle.text.specs.declared.read.Number.TheVariants.{Value, Bad}
+use native.Mathlib.Decide.{dec_lt, ℕ_discrete}
+use lib.ListN.{length, take, drop, get_or, drop_of_length-le, length-drop}
+use lib.Dec.{eqb, ltb, leb}
+use lib.Pointwise.{pointwise}
+use lib.Seq.{drop-cons, get_or-drop, take_all}
+use borrow.Author.Tests.{lt-ltb, le-ltb, ltb-false, leb-true, le-leb, eq-eqb, ne_eqb}
+use Rattle.std.specs.Char.{is_ascii_digit}
+use Rattle.std.proofs.lemmas.Bool.{lt-leb}
+use Rattle.std.proofs.lemmas.List.{drop_min}
+use Rattle.std.specs.Prelude.{Some, None}
+use Rattle.text.specs.Scan.{starts_with, is_digit, canonical, digit_count, value, leading, number_at, key_at, cap}
 
 last_two : (t u : Bool) → cond t false u ≡ true → (t ≡ false) × (u ≡ true)
 last_two true u e = let z : ◌≡◌ {A = ℕ} 0 1 = cc in absurd (omega arith)
 last_two false u e = (refl, e)
+
+-- a byte is a digit as the library tests it
+pub ascii_digit : (b : ℕ) → is_ascii_digit b ≡ is_digit b
+unfolding is_digit
+ascii_digit b = by (dec_lt b 48)
+  where
+    by : Dec (b < 48) → is_ascii_digit b ≡ cond (ltb b 48) false (leb b 57)
+    by (yes h) = rw (lt-ltb b 48 h, lt-leb 48 b h)
+    by (no h) = rw (le-ltb b 48 (omega arith), le-leb 48 b (omega arith))
+
+flipped : (a b : ℕ) → eqb a b ≡ eqb b a
+flipped a b = by (ℕ_discrete a b)
+  where
+    by : Dec (a ≡ b) → eqb a b ≡ eqb b a
+    by (yes e) = rw (eq-eqb a b e, eq-eqb b a (sym e))
+    by (no d) = rw (ne_eqb a b d, ne_eqb b a (λ e. d (sym e)))
+
+-- a text begins with a key as the library tests it
+pub begins : (key d : List ℕ) → pointwise eqb key (take (length key) d) ≡ starts_with key d
+unfolding starts_with
+begins [] d = refl
+begins (k ∷ ks) [] = refl
+begins (k ∷ ks) (b ∷ d) = rw (flipped k b) (by (eqb b k) (begins ks d))
+  where
+    by : (t : Bool) → pointwise eqb ks (take (length ks) d) ≡ starts_with ks d
+        → (t && pointwise eqb ks (take (length ks) d)) ≡ cond t (starts_with ks d) false
+    by true e = e
+    by false e = refl
+
+-- what stands from an index on, which may be past the text
+pub tail : (s : List ℕ) (at i : ℕ) → i ≡ min at (length s) → take (length s - i) (drop i s) ≡ drop at s
+tail s at i e = rw e (take_all (length s - min at (length s)) (drop (min at (length s)) s) (simp length-drop (omega arith)) ∙ drop_min at s)
+
+module _ (s : List ℕ) (at : ℕ) (key rest : List ℕ) (r : Bool) (e : r ≡ pointwise eqb key (take (length key) rest)) (f : rest ≡ drop at s) where
+  same : starts_with key (drop at s) ≡ r
+  same = sym (begins key (drop at s)) ∙ sym (rw (← f) e)
+
+  pub key_found : r ≡ true → Some (at + length key) ≡ key_at s at key
+  unfolding key_at
+  key_found h = rw (same, h)
+
+  pub key_missing : r ≡ false → None ≡ key_at s at key
+  unfolding key_at
+  key_missing h = rw (same, h)
 
 pub digit_range : (b : ℕ) → is_digit b ≡ true → (48 ≤ b) × (b ≤ 57)
 unfolding is_digit
@@ -64,7 +114,7 @@ module _ (s : List ℕ) (i : ℕ) where
 
 -- the digits from `at` on end at index i
 module _ (s : List ℕ) (at i e : ℕ) (from : at ≤ i) (count : digit_count (drop at s) ≡ i - at) where
-  pub ends_text : length s ≤ i → Bad ≡ cap (number_at s at e)
+  pub ends_text : length s ≤ i → None ≡ cap (number_at s at e)
   unfolding number_at leading cap
   ends_text h = let g : length (drop at s) ≤ i - at = simp length-drop (omega arith) in rw (count, le-ltb _ _ g)
 
@@ -78,17 +128,17 @@ module _ (s : List ℕ) (at i e : ℕ) (from : at ≤ i) (count : digit_count (d
     inside : i - at < length (drop at s)
     inside = simp length-drop (omega arith)
 
-    pub ends_otherwise : (get_or s i 0 ≡ e → ⊥) → Bad ≡ cap (number_at s at e)
+    pub ends_otherwise : (get_or s i 0 ≡ e → ⊥) → None ≡ cap (number_at s at e)
     unfolding number_at leading cap
     ends_otherwise k = rw (count, lt-ltb _ _ inside, last, ne_eqb _ _ k)
 
     module _ (k : get_or s i 0 ≡ e) where
-      pub not_canonical : canonical (get_or s at 0) (i - at) ≡ false → Bad ≡ cap (number_at s at e)
+      pub not_canonical : canonical (get_or s at 0) (i - at) ≡ false → None ≡ cap (number_at s at e)
       unfolding number_at leading cap
       not_canonical c = rw (count, lt-ltb _ _ inside, last, eq-eqb _ _ k, first, c)
 
       pub number_read : canonical (get_or s at 0) (i - at) ≡ true → (v : ℕ) → v ≡ min (value 0 (drop at s)) 4000000000
-          → Value v (i + 1) ≡ cap (number_at s at e)
+          → Some (v, i + 1) ≡ cap (number_at s at e)
       unfolding number_at leading cap
       number_read c v w =
           let j : at + (i - at) + 1 ≡ i + 1 = omega arith in

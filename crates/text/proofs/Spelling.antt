@@ -17,22 +17,22 @@ use borrow.Author.Tests.{lt-ltb, le-ltb}
 use lib.ListN.{length, drop, get_or, set, length-drop, drop_of_length-le}
 use lib.Seq.{drop-cons}
 use lib.Dec.{ltb, eqb}
-use Rattle.text.specs.Scan.{number_at, cap}
+use Rattle.std.specs.Prelude.{Some, None}
+use Rattle.text.specs.Scan.{Number, number_at, value_of, cap}
 use Rattle.text.specs.List.{Items, items, bad, ahead, last, entry, entries, items_at, numbers_in}
 use Rattle.text.specs.Runs.{Stands}
 use Rattle.text.specs.Over.{Left}
-use Rattle.text.specs.declared.read.Number.{Number}
-use Rattle.text.specs.declared.read.Number.TheVariants.{Value, Bad}
 use Rattle.text.proofs.Overs.{left_start, left_store, left_end, wrote_front}
+use Rattle.text.proofs.Held.{index_of}
 use Rattle.text.proofs.Lists.{under_elim}
 
 pub data Next (s : List ℕ) (i v : ℕ) (ws : List ℕ) (e : ℕ) : Type 0 where
-  final : ws ≡ [] → number_at s i 10 ≡ Value v e → Next s i v ws e
-  more : (k j : ℕ) → 0 < length ws → number_at s i 44 ≡ Value v j → entries k s j ≡ items ws e → Next s i v ws e
+  final : ws ≡ [] → number_at s i 10 ≡ Some (v, e) → Next s i v ws e
+  more : (k j : ℕ) → 0 < length ws → number_at s i 44 ≡ Some (v, j) → entries k s j ≡ items ws e → Next s i v ws e
 
 last_some : (n : Number) (ws : List ℕ) (e : ℕ) → last n ≡ items ws e → 0 < length ws
-last_some (Value v i) ws e h = let k : (v ∷ []) ≡ ws = cc h in rw (← k) (omega arith)
-last_some Bad ws e h = let z : ◌≡◌ {A = ℕ} 0 1 = cc in absurd (omega arith)
+last_some (Some (v, i)) ws e h = let k : (v ∷ []) ≡ ws = cc h in rw (← k) (omega arith)
+last_some None ws e h = let z : ◌≡◌ {A = ℕ} 0 1 = cc in absurd (omega arith)
 
 ahead_some : (v : ℕ) (l : Items) (ws : List ℕ) (e : ℕ) → ahead v l ≡ items ws e → 0 < length ws
 ahead_some v (items us i) ws e h = let k : (v ∷ us) ≡ ws = cc h in rw (← k) (omega arith)
@@ -44,17 +44,17 @@ entries_some zero s i ws e h = last_some (number_at s i 10) ws e h
 entries_some (suc k) s i ws e h = by (number_at s i 44) h
   where
     by : (n : Number) → entry n (entries k s) (last (number_at s i 10)) ≡ items ws e → 0 < length ws
-    by (Value v j) g = ahead_some v (entries k s j) ws e g
-    by Bad g = last_some (number_at s i 10) ws e g
+    by (Some (v, j)) g = ahead_some v (entries k s j) ws e g
+    by None g = last_some (number_at s i 10) ws e g
 
 module _ (s : List ℕ) (i v : ℕ) (ws : List ℕ) (e : ℕ) where
   last_next : (n : Number) → number_at s i 10 ≡ n → last n ≡ items (v ∷ ws) e → Next s i v ws e
-  last_next (Value u j) p h =
+  last_next (Some (u, j)) p h =
       let a : u ≡ v = cc h in let b : [] ≡ ws = cc h in let c : j ≡ e = cc h in
       final (sym b) (p ∙ rw (a, c))
-  last_next Bad p h = let z : ◌≡◌ {A = ℕ} 0 1 = cc in absurd (omega arith)
+  last_next None p h = let z : ◌≡◌ {A = ℕ} 0 1 = cc in absurd (omega arith)
 
-  ahead_next : (k u j : ℕ) → number_at s i 44 ≡ Value u j → (l : Items) → entries k s j ≡ l → ahead u l ≡ items (v ∷ ws) e → Next s i v ws e
+  ahead_next : (k u j : ℕ) → number_at s i 44 ≡ Some (u, j) → (l : Items) → entries k s j ≡ l → ahead u l ≡ items (v ∷ ws) e → Next s i v ws e
   ahead_next k u j p (items us f) q h =
       let a : u ≡ v = cc h in let b : us ≡ ws = cc h in let c : f ≡ e = cc h in
       more k j (entries_some k s j ws e (q ∙ rw (b, c))) (p ∙ rw a) (q ∙ rw (b, c))
@@ -66,8 +66,8 @@ module _ (s : List ℕ) (i v : ℕ) (ws : List ℕ) (e : ℕ) where
   entries_next (suc k) h = by (number_at s i 44) refl h
     where
       by : (n : Number) → number_at s i 44 ≡ n → entry n (entries k s) (last (number_at s i 10)) ≡ items (v ∷ ws) e → Next s i v ws e
-      by (Value u j) p g = ahead_next k u j p (entries k s j) refl g
-      by Bad p g = last_next (number_at s i 10) refl g
+      by (Some (u, j)) p g = ahead_next k u j p (entries k s j) refl g
+      by None p g = last_next (number_at s i 10) refl g
 
 abbrev end_of : Items → ℕ
 end_of (items vs i) = i
@@ -125,7 +125,7 @@ module _ (s : List ℕ) (at count : ℕ) where
       -- the number that is read there, and what is then left
       record Read (e : ℕ) : Type 0 where
         pub index : ℕ
-        pub is : number_at s next e ≡ Value (get_or places n 0) index
+        pub is : number_at s next e ≡ Some (get_or places n 0, index)
         pub more_fuel : ℕ
         pub onward : n + 1 < count → entries more_fuel s index ≡ items (drop (suc n) places) p.end
 
@@ -139,19 +139,19 @@ module _ (s : List ℕ) (at count : ℕ) where
           by (more f j some q r) = record { index = j; is = rw (k, lt-ltb (n + 1) count (omega (arith, left))) q; more_fuel = f; onward = λ l. r }
 
       module _ (e : ℕ) (k : e ≡ cond (ltb (n + 1) count) 44 10) (m : Number) (g : m ≡ cap (number_at s next e)) where
-        held : m ≡ Value (min (get_or places n 0) 4000000000) (read e k).index
+        held : m ≡ Some (min (get_or places n 0) 4000000000, (read e k).index)
         unfolding cap
         held = g ∙ ap cap (read e k).is
 
-        pub put_there : m ≡ Bad → ⊥
-        put_there z = let q : ◌≡◌ {A = Number} Bad (Value (min (get_or places n 0) 4000000000) (read e k).index) = sym z ∙ held in
+        pub put_there : m ≡ None → ⊥
+        put_there z = let q : ◌≡◌ {A = Number} None (Some (min (get_or places n 0) 4000000000, (read e k).index)) = sym z ∙ held in
             let w : ◌≡◌ {A = ℕ} 0 1 = cc in omega arith
 
-        pub put_next : (x i : ℕ) → m ≡ Value x i → Put s at count before (set after n (x % 256)) i (n + 1)
+        pub put_next : (x i : ℕ) → m ≡ Some (x, i) → Put s at count before (set after n (x % 256)) i (n + 1)
         put_next x i q =
-            let same : Value x i ≡ Value (min (get_or places n 0) 4000000000) (read e k).index = sym q ∙ held in
-            let v : x ≡ min (get_or places n 0) 4000000000 = cc same in
-            let j : i ≡ (read e k).index = cc same in
+            let same : ◌≡◌ {A = Number} (Some (x, i)) (Some (min (get_or places n 0) 4000000000, (read e k).index)) = sym q ∙ held in
+            let v : x ≡ min (get_or places n 0) 4000000000 = ap value_of same in
+            let j : i ≡ (read e k).index = ap index_of same in
             let byte : x % 256 ≡ get_or places n 0 = omega (arith, low) in
             record {
               stands = p.stands;

@@ -38,29 +38,25 @@ use borrow.Author.Tests.{ltb-false, eqb-true, ne_eqb}
 use lib.Dec.{ltb, eqb}
 use lib.ListN.{length, take, drop, get_or, length-append, length-drop}
 use lib.Seq.{drop-cons, drop-drop, take-add, take-append_seam}
+use Rattle.std.specs.Prelude.{Option, Some, None, Ok, Err}
 use Rattle.text.specs.Fault as fault
-use Rattle.text.specs.Scan.{starts_with, number_at, key_at, next_number, value_of, newlines, line_at}
-use Rattle.text.specs.Line.{behind, pair, bad_form, closed, within, line_of_one, first_of, top, finish, good}
-use Rattle.text.specs.List.{Items, items, bad, ahead, last, entry, entries, items_at, under, judged_list, list_behind, list_line, places_of}
+use Rattle.text.specs.Scan.{Number, starts_with, number_at, key_at, first_number, value_of, newlines, line_at}
+use Rattle.text.specs.Line.{Line, behind, pair, bad_form, closed, within, line_of_one, first_of, top, finish, good}
+use Rattle.text.specs.List.{Items, items, bad, ahead, last, entry, entries, items_at, under, ListLine, judged_list, list_behind, list_line, places_of}
 use Rattle.text.specs.Decimal.{decimal}
 use Rattle.text.specs.KeyLine.{commaed, joined, key_line}
 use Rattle.text.specs.declared.fault.Fault.{Fault}
 use Rattle.text.specs.declared.fault.Fault.TheVariants.{Range}
-use Rattle.text.specs.declared.read.Number.{Number}
-use Rattle.text.specs.declared.read.Number.TheVariants.{Value, Bad}
 use Rattle.text.specs.declared.line.Numbers.{Numbers}
 use Rattle.text.specs.declared.line.Cursor.{Cursor}
-use Rattle.text.specs.declared.line.Line.{Line}
-use Rattle.text.specs.declared.line.Line.TheVariants as line
-use Rattle.text.specs.declared.list.ListLine.{ListLine}
 use Rattle.text.proofs.Decimals.{decimal_small, decimal_more, decimal_each}
 use Rattle.text.proofs.Entries.{ends_inside}
 use Rattle.text.proofs.Spelling.{Next, final, more, entries_some, entries_next}
 use Rattle.text.proofs.WrittenBack.{pick_value, written_back}
 
 abbrev pub next_at : Line → ℕ
-next_at (line.Numbers xs c) = c.at
-next_at (line.Fault f) = 0
+next_at (Ok (xs, c)) = c.at
+next_at (Err f) = 0
 
 pub record Stood (s : List ℕ) (at : ℕ) (text : List ℕ) (next : ℕ) : Type 0 where
   pub bytes : drop at s ≡ text ++ drop next s
@@ -84,14 +80,14 @@ starts-with (k ∷ ks) (b ∷ d) e = by (eqb b k) refl e (starts-with ks d)
     by false h e rest = absurd (false≢true e)
 
 module _ (s : List ℕ) (at : ℕ) where
-  pub key_stood : (key : List ℕ) (v i : ℕ) → key_at s at key ≡ Value v i → Stood s at key i
+  pub key_stood : (key : List ℕ) (i : ℕ) → key_at s at key ≡ Some i → Stood s at key i
   unfolding key_at
-  key_stood key v i e =
-      let p = pick_value (starts_with key (drop at s)) _ v i e in
+  key_stood key i e =
+      let p = pick_value (starts_with key (drop at s)) _ i e in
       let past : at + length key ≡ i = cc p.1 in
       record { bytes = starts-with key (drop at s) p.0 ∙ rw (drop-drop (length key) at s, past); place = sym past }
 
-  pub number_stood : (e v i : ℕ) → number_at s at e ≡ Value v i → Stood s at (decimal v ++ (e ∷ [])) i
+  pub number_stood : (e v i : ℕ) → number_at s at e ≡ Some (v, i) → Stood s at (decimal v ++ (e ∷ [])) i
   number_stood e v i h =
       let w = written_back s at e v i h in
       record { bytes = w.0 ∙ rw append_assoc; place = simp length-append (omega (arith, w.1)) }
@@ -133,16 +129,16 @@ unfolding entries
 entries_more s zero at h = by (number_at s at 44) refl
   where
     by : (n : Number) → number_at s at 44 ≡ n → last (number_at s at 10) ≡ entry n (entries 0 s) (last (number_at s at 10))
-    by (Value v i) e =
+    by (Some (v, i)) e =
         let stood = number_stood s at 44 v i e in
         absurd (omega (arith, stood.place, ap length stood.bytes, length-drop at s, length-append (decimal v ++ (44 ∷ [])) (drop i s), length-append (decimal v) (44 ∷ [])))
-    by Bad e = refl
+    by None e = refl
 entries_more s (suc k) at h = by (number_at s at 44) refl (entries_more s k)
   where
     by : (n : Number) → number_at s at 44 ≡ n → ((i : ℕ) → length s ≤ i + k → entries k s i ≡ entries (suc k) s i)
         → entry n (entries k s) (last (number_at s at 10)) ≡ entry n (entries (suc k) s) (last (number_at s at 10))
-    by (Value v i) e rest = ap (ahead v) (rest i (omega (arith, (number_stood s at 44 v i e).place, length-append (decimal v) (44 ∷ []))))
-    by Bad e rest = refl
+    by (Some (v, i)) e rest = ap (ahead v) (rest i (omega (arith, (number_stood s at 44 v i e).place, length-append (decimal v) (44 ∷ []))))
+    by None e rest = refl
 
 pub entries_enough : (s : List ℕ) (at n : ℕ) → entries (n + length s) s at ≡ entries (length s) s at
 entries_enough s at zero = ap (λ k. entries k s at) (omega arith)
@@ -152,7 +148,7 @@ entries_enough s at (suc n) =
 
 pub data Follows (s : List ℕ) (l : Line) (text : List ℕ) (r : Line) : Type 0 where
   again : good l ≡ false → r ≡ l → Follows s l text r
-  faulty : (f : Fault) → good l ≡ true → r ≡ line.Fault f → fault.line_of f ≡ line_at s (next_at l) → Follows s l text r
+  faulty : (f : Fault) → good l ≡ true → r ≡ Err f → fault.line_of f ≡ line_at s (next_at l) → Follows s l text r
   stands : good l ≡ true → good r ≡ true → Stood s (next_at l) text (next_at r) → Follows s l text r
 
 pub follows_good : {s : List ℕ} {l : Line} {text : List ℕ} {r : Line} → Follows s l text r → good r ≡ true
@@ -163,33 +159,33 @@ follows_good (stands h k p) g = (h, p)
 
 abbrev pub number_line : List ℕ → Line → List ℕ → (ℕ → Bool) → Line
 number_line s l key fit =
-    behind l (λ at. let a = next_number s (key_at s at key) 10 in closed s at a (fit (value_of a)) (pair (value_of a) 0))
+    behind l (λ at. let a = first_number s (key_at s at key) 10 in closed s at a (fit (value_of a)) (pair (value_of a) 0))
 
 -- behind a line without a fault: by the key that is found, and by the number
 module _ (s : List ℕ) (key : List ℕ) (xs : Numbers) (c : Cursor) where
   abbrev Numbered : Line → Type 0
-  Numbered r = Follows s (line.Numbers xs c) (key_line key (decimal (first_of r))) r
+  Numbered r = Follows s (Ok (xs, c)) (key_line key (decimal (first_of r))) r
 
   by_number : (fit : ℕ → Bool) (at : ℕ) → Stood s c.at key at → (a : Number) → number_at s at 10 ≡ a
       → Numbered (closed s c.at a (fit (value_of a)) (pair (value_of a) 0))
   unfolding key_line
-  by_number fit at k Bad e = faulty _ refl refl refl
-  by_number fit at k (Value v i) e = by (fit v)
+  by_number fit at k None e = faulty _ refl refl refl
+  by_number fit at k (Some (v, i)) e = by (fit v)
     where
-      by : (t : Bool) → Numbered (closed s c.at (Value v i) t (pair v 0))
+      by : (t : Bool) → Numbered (closed s c.at (Some (v, i)) t (pair v 0))
       by true = stands refl refl (stood_join k (number_stood s at 10 v i e))
       by false = faulty _ refl refl refl
 
-  by_key : (fit : ℕ → Bool) (k : Number) → key_at s c.at key ≡ k
-      → Numbered (let a = next_number s k 10 in closed s c.at a (fit (value_of a)) (pair (value_of a) 0))
-  by_key fit Bad e = faulty _ refl refl refl
-  by_key fit (Value v at) e = by_number fit at (key_stood s c.at key v at e) (number_at s at 10) refl
+  by_key : (fit : ℕ → Bool) (k : Option ℕ) → key_at s c.at key ≡ k
+      → Numbered (let a = first_number s k 10 in closed s c.at a (fit (value_of a)) (pair (value_of a) 0))
+  by_key fit None e = faulty _ refl refl refl
+  by_key fit (Some at) e = by_number fit at (key_stood s c.at key at e) (number_at s at 10) refl
 
 module _ (s : List ℕ) (key : List ℕ) where
   pub number_follows : (l : Line) (fit : ℕ → Bool)
       → Follows s l (key_line key (decimal (first_of (number_line s l key fit)))) (number_line s l key fit)
-  number_follows (line.Fault f) fit = again refl refl
-  number_follows (line.Numbers xs c) fit = by_key s key xs c fit (key_at s c.at key) refl
+  number_follows (Err f) fit = again refl refl
+  number_follows (Ok (xs, c)) fit = by_key s key xs c fit (key_at s c.at key) refl
 
   pub one_follows : (l : Line) (low bound : ℕ)
       → Follows s l (key_line key (decimal (first_of (line_of_one s l key low bound)))) (line_of_one s l key low bound)
@@ -210,12 +206,12 @@ module _ (s : List ℕ) (key : List ℕ) (bound : ℕ) where
   -- behind a line without a fault: by the key that is found, and by the list
   module _ (xs : Numbers) (c : Cursor) where
     by_items : (at : ℕ) → Stood s c.at key at → (i : Items) → items_at s at ≡ i
-        → ListFollows s (line.Numbers xs c) key bound (judged_list s c.at at i bound)
+        → ListFollows s (Ok (xs, c)) key bound (judged_list s c.at at i bound)
     unfolding key_line
     by_items at k bad e = listless _ _ refl (faulty _ refl refl refl)
     by_items at k (items vs i) e = by (under bound vs) refl
       where
-        by : (t : Bool) → under bound vs ≡ t → ListFollows s (line.Numbers xs c) key bound (judged_list s c.at at (items vs i) bound)
+        by : (t : Bool) → under bound vs ≡ t → ListFollows s (Ok (xs, c)) key bound (judged_list s c.at at (items vs i) bound)
         by true u = record {
           follows = stands refl (rw u) (rw (e, u) (stood_join k (items_stood s at vs i e)));
           whole = λ g. rw e;
@@ -223,21 +219,21 @@ module _ (s : List ℕ) (key : List ℕ) (bound : ℕ) where
         }
         by false u = listless _ _ (rw u) (faulty (Range (line_at s c.at)) refl (rw u) refl)
 
-    by_list_key : (k : Number) → key_at s c.at key ≡ k → ListFollows s (line.Numbers xs c) key bound (list_behind s c.at k bound)
-    by_list_key Bad e = listless _ _ refl (faulty _ refl refl refl)
-    by_list_key (Value v at) e = by_items at (key_stood s c.at key v at e) (items_at s at) refl
+    by_list_key : (k : Option ℕ) → key_at s c.at key ≡ k → ListFollows s (Ok (xs, c)) key bound (list_behind s c.at k bound)
+    by_list_key None e = listless _ _ refl (faulty _ refl refl refl)
+    by_list_key (Some at) e = by_items at (key_stood s c.at key at e) (items_at s at) refl
 
   pub list_follows : (l : Line) → ListFollows s l key bound (list_line s l key bound)
   unfolding list_line
-  list_follows (line.Fault f) = listless _ _ refl (again refl refl)
-  list_follows (line.Numbers xs c) = by_list_key xs c (key_at s c.at key) refl
+  list_follows (Err f) = listless _ _ refl (again refl refl)
+  list_follows (Ok (xs, c)) = by_list_key xs c (key_at s c.at key) refl
 
 pub finish_good : (s : List ℕ) (l : Line) → good (finish s l) ≡ true → (good l ≡ true) × (length s ≤ next_at l)
 unfolding finish
-finish_good s (line.Fault f) g = absurd (false≢true g)
-finish_good s (line.Numbers xs c) g = by (ltb c.at (length s)) refl g
+finish_good s (Err f) g = absurd (false≢true g)
+finish_good s (Ok (xs, c)) g = by (ltb c.at (length s)) refl g
   where
-    by : (t : Bool) → ltb c.at (length s) ≡ t → good (cond t (bad_form s c.at) (line.Numbers xs c)) ≡ true
+    by : (t : Bool) → ltb c.at (length s) ≡ t → good (cond t (Err (bad_form s c.at)) (Ok (xs, c))) ≡ true
         → ◌≡◌ {A = Bool} true true × (length s ≤ c.at)
     by true h e = absurd (false≢true e)
     by false h e = (refl, ltb-false c.at (length s) h)
@@ -276,16 +272,16 @@ stood_newlines {s} {at} {text} {next} p =
     ap (λ n. newlines (take n s)) p.place ∙ rw (take-add at (length text) s, newlines_append, p.bytes, take-append_seam)
 
 abbrev pub fault_line : Line → ℕ
-fault_line (line.Numbers xs c) = 0
-fault_line (line.Fault f) = fault.line_of f
+fault_line (Ok (xs, c)) = 0
+fault_line (Err f) = fault.line_of f
 
 pub record Begun (s : List ℕ) (k : ℕ) (l : Line) : Type 0 where
   pub passed : good l ≡ true → newlines (take (next_at l) s) ≡ k
   pub low : fault_line l ≤ k
 
 good_line : (l : Line) → good l ≡ true → fault_line l ≡ 0
-good_line (line.Numbers xs c) g = refl
-good_line (line.Fault f) g = absurd (false≢true g)
+good_line (Ok (xs, c)) g = refl
+good_line (Err f) g = absurd (false≢true g)
 
 pub begun_top : (s : List ℕ) → Begun s 0 top
 unfolding newlines
@@ -301,9 +297,9 @@ begun_next {r = r} b (stands h g p) n =
 
 pub begun_finish : {s : List ℕ} {k : ℕ} {l : Line} → Begun s k l → fault_line (finish s l) ≤ k + 1
 unfolding finish line_at
-begun_finish {l = line.Fault f} b = omega (arith, b.low)
-begun_finish {s} {k} {l = line.Numbers xs c} b = by (ltb c.at (length s))
+begun_finish {l = Err f} b = omega (arith, b.low)
+begun_finish {s} {k} {l = Ok (xs, c)} b = by (ltb c.at (length s))
   where
-    by : (t : Bool) → fault_line (cond t (bad_form s c.at) (line.Numbers xs c)) ≤ k + 1
+    by : (t : Bool) → fault_line (cond t (Err (bad_form s c.at)) (Ok (xs, c))) ≤ k + 1
     by true = omega (arith, b.passed refl)
     by false = omega arith

@@ -17,11 +17,11 @@ use lib.Arith.{digits_div, digits_mod}
 use lib.Dec.{ltb, eqb}
 use lib.ListN.{length, take, drop, get_or}
 use lib.Seq.{length-take-le, split_at, drop-drop}
-use Rattle.text.specs.Scan.{is_digit, canonical, digit_count, value, pick, leading, number_at}
+use Rattle.std.specs.Prelude.{Option, Some}
+use Rattle.text.specs.Scan.{is_digit, canonical, digit_count, value, pick, leading, number_at, value_of}
 use Rattle.text.specs.Decimal.{decimal}
-use Rattle.text.specs.declared.read.Number.{Number}
-use Rattle.text.specs.declared.read.Number.TheVariants.{Value}
 use Rattle.text.proofs.Decimals.{decimal_small, decimal_more}
+use Rattle.text.proofs.Held.{index_of}
 use Rattle.text.proofs.Scans.{digit_range}
 
 digit_back : (v b : ℕ) → 0 < v → is_digit b ≡ true → decimal (v * 10 + (b - 48)) ≡ decimal v ++ (b ∷ [])
@@ -69,22 +69,22 @@ number_back (b ∷ d) c = by (is_digit b) refl
         rw (h, add-one) (digits_back d x (omega arith) ∙ rw (decimal_small x (omega arith), same))
     by false h = absurd (omega (arith, canonical_is b 0 (rw h at c)))
 
-pub pick_value : (t : Bool) (n : Number) (v i : ℕ) → pick t n ≡ Value v i → (t ≡ true) × (n ≡ Value v i)
-pick_value true n v i e = (refl, e)
-pick_value false n v i e = let z : ◌≡◌ {A = ℕ} 0 1 = cc in absurd (omega arith)
+pub pick_value : {T : Type 0} (t : Bool) (n : Option T) (x : T) → pick t n ≡ Some x → (t ≡ true) × (n ≡ Some x)
+pick_value true n x e = (refl, e)
+pick_value false n x e = let z : ◌≡◌ {A = ℕ} 0 1 = cc in absurd (omega arith)
 
-pub written_back : (s : List ℕ) (at e v i : ℕ) → number_at s at e ≡ Value v i
+pub written_back : (s : List ℕ) (at e v i : ℕ) → number_at s at e ≡ Some (v, i)
     → (drop at s ≡ decimal v ++ (e ∷ drop i s)) × (i ≡ at + length (decimal v) + 1)
 unfolding number_at leading
 written_back s at e v i k =
     let d = drop at s in
     let n = digit_count d in
-    let inside = pick_value (ltb n (length d)) _ v i k in
-    let ended = pick_value (eqb (get_or d n 0) e) _ v i inside.1 in
-    let good = pick_value (canonical (get_or d 0 0) n) _ v i ended.1 in
+    let inside = pick_value (ltb n (length d)) _ (v, i) k in
+    let ended = pick_value (eqb (get_or d n 0) e) _ (v, i) inside.1 in
+    let good = pick_value (canonical (get_or d 0 0) n) _ (v, i) ended.1 in
     let fits : n < length d = ltb-true n (length d) inside.0 in
-    let past : at + n + 1 ≡ i = cc good.1 in
-    let same : value 0 d ≡ v = cc good.1 in
+    let past : at + n + 1 ≡ i = ap index_of good.1 in
+    let same : value 0 d ≡ v = ap value_of good.1 in
     let digits : decimal v ≡ take n d = rw same at (number_back d good.0) in
     let count : length (decimal v) ≡ n = ap length digits ∙ length-take-le n d (omega arith) in
     let there : at + suc n ≡ i = omega arith in

@@ -2,73 +2,94 @@
 -- read behind the line before it. Once a line has a fault, every later one is that fault again: the first faulty line decides. The
 -- line itself is a chain of steps: its key, then number after number, each behind the one before (`next_number`); once one has a bad
 -- form, so have those behind it. The line is judged by its last number: its form, and then whether its numbers are in their ranges.
+--   Line                             == the numbers of a line with the next cursor, or its fault
 --   behind prior read                == the line behind `prior`, by its index; the fault of `prior` where it has one
 --   pair x y                         == the numbers x and y
 --   bad_form s at                     == the form fault of the line at index `at`
---   judged s at next fit xs          == the line at index `at`, of good form: its numbers xs with the next cursor, or its range fault
+--   judged s at next fit xs          == the line at index `at`, of good form: xs, what was read of it, with the next cursor, or its range fault
 --   closed s at last fit xs          == the line at index `at` with the last number `last`: its form is judged before its ranges
 --   within x low bound               == x is at least low and below bound
---   line_of_one s prior key low bound  == a line `key=a` with a from low to below bound
+--   one_from s at key low bound        == the line at index `at`, `key=a` with a from low to below bound
+--   line_of_one s prior key low bound  == so for the line behind `prior`
 --   good l                           == the line l has no fault
 --   numbers_of l                      == the numbers of a line, 0 of a fault
 --   first_of l                        == the first of them
---   top                              == before the first line
+--   start, top                       == before the first line, as a cursor and as a line
 --   finish s last                    == the last line again, or a form fault of the next one where bytes follow it
---   OneRead given bound r            == r is the line `given`, and its number is at most bound - 1
-use Rattle.std.specs.Prelude.{◌≡◌, Bool, true, false, cond, List, ℕ, ◌-◌, ◌≤◌, length, ltb}
-use Rattle.text.specs.Scan.{key_at, next_number, value_of, line_at}
+--   ended s at                       == the text s ends before index `at`; a form fault of the line there where bytes follow
+--   told l x                         == what the lines that end with l were read as, x, with the next cursor; or the fault of l
+--   made l x                         == so, without the cursor
+--   OneRead given bound r            == r is the number of the line `given`, below bound, with the next cursor; or the fault of that line
+use Rattle.std.specs.Prelude.{◌≡◌, Bool, true, false, cond, List, ℕ, ◌<◌, length, ltb, Some, None, Result, Ok, Err, ⊤}
+use Rattle.text.specs.Scan.{Number, key_at, first_number, value_of, line_at}
+use Rattle.text.specs.declared.fault.Fault.{Fault}
 use Rattle.text.specs.declared.fault.Fault.TheVariants.{Form, Range}
-use Rattle.text.specs.declared.read.Number.{Number}
-use Rattle.text.specs.declared.read.Number.TheVariants.{Value, Bad}
 use Rattle.text.specs.declared.line.Numbers.{Numbers}
-use Rattle.text.specs.declared.line.Line.{Line}
-use Rattle.text.specs.declared.line.Line.TheVariants as line
+use Rattle.text.specs.declared.line.Cursor.{Cursor}
+
+abbrev pub Line : Type 0
+Line = Result (Numbers × Cursor) Fault
 
 abbrev pub behind : Line → (ℕ → Line) → Line
-behind (line.Fault f) read = line.Fault f
-behind (line.Numbers xs c) read = read c.at
+behind (Err f) read = Err f
+behind (Ok (xs, c)) read = read c.at
 
 abbrev pub pair : ℕ → ℕ → Numbers
 pair x y = record { first = x; second = y; third = 0; fourth = 0; fifth = 0 }
 
-abbrev pub bad_form : List ℕ → ℕ → Line
-bad_form s at = line.Fault (Form (line_at s at))
+abbrev pub bad_form : List ℕ → ℕ → Fault
+bad_form s at = Form (line_at s at)
 
-abbrev pub judged : List ℕ → ℕ → ℕ → Bool → Numbers → Line
-judged s at next fit xs = cond fit (line.Numbers xs (record { at = next })) (line.Fault (Range (line_at s at)))
+abbrev pub judged : {T : Type 0} → List ℕ → ℕ → ℕ → Bool → T → Result (T × Cursor) Fault
+judged s at next fit xs = cond fit (Ok (xs, record { at = next })) (Err (Range (line_at s at)))
 
 abbrev pub closed : List ℕ → ℕ → Number → Bool → Numbers → Line
-closed s at Bad fit xs = bad_form s at
-closed s at (Value v i) fit xs = judged s at i fit xs
+closed s at None fit xs = Err (bad_form s at)
+closed s at (Some (v, i)) fit xs = judged s at i fit xs
 
 unfoldable pub within : ℕ → ℕ → ℕ → Bool
 within x low bound = cond (ltb x low) false (ltb x bound)
 
+abbrev pub one_from : List ℕ → ℕ → List ℕ → ℕ → ℕ → Line
+one_from s at key low bound =
+    let a = first_number s (key_at s at key) 10 in
+    closed s at a (within (value_of a) low bound) (pair (value_of a) 0)
+
 unfoldable pub line_of_one : List ℕ → Line → List ℕ → ℕ → ℕ → Line
-line_of_one s prior key low bound =
-    behind prior
-    (λ at.
-    let a = next_number s (key_at s at key) 10 in
-    closed s at a (within (value_of a) low bound) (pair (value_of a) 0))
+line_of_one s prior key low bound = behind prior (λ at. one_from s at key low bound)
 
 abbrev pub good : Line → Bool
-good (line.Numbers xs c) = true
-good (line.Fault f) = false
+good (Ok (xs, c)) = true
+good (Err f) = false
 
 abbrev pub numbers_of : Line → Numbers
-numbers_of (line.Numbers xs c) = xs
-numbers_of (line.Fault f) = pair 0 0
+numbers_of (Ok (xs, c)) = xs
+numbers_of (Err f) = pair 0 0
 
 abbrev pub first_of : Line → ℕ
 first_of l = (numbers_of l).first
 
+abbrev pub start : Cursor
+start = record { at = 0 }
+
 abbrev pub top : Line
-top = line.Numbers (pair 0 0) (record { at = 0 })
+top = Ok (pair 0 0, start)
 
 unfoldable pub finish : List ℕ → Line → Line
-finish s (line.Fault f) = line.Fault f
-finish s (line.Numbers xs c) = cond (ltb c.at (length s)) (bad_form s c.at) (line.Numbers xs c)
+finish s (Err f) = Err f
+finish s (Ok (xs, c)) = cond (ltb c.at (length s)) (Err (bad_form s c.at)) (Ok (xs, c))
 
-pub record OneRead (given : Line) (bound : ℕ) (r : Line) : Type 0 where
-  pub same : r ≡ given
-  pub first_low : (numbers_of r).first ≤ bound - 1
+abbrev pub ended : List ℕ → ℕ → Result ⊤ Fault
+ended s at = cond (ltb at (length s)) (Err (bad_form s at)) (Ok tt)
+
+abbrev pub told : {T : Type 0} → Line → T → Result (T × Cursor) Fault
+told (Err f) x = Err f
+told (Ok (xs, c)) x = Ok (x, c)
+
+abbrev pub made : {T : Type 0} → Line → T → Result T Fault
+made (Err f) x = Err f
+made (Ok (xs, c)) x = Ok x
+
+pub record OneRead (given : Line) (bound : ℕ) (r : Result (ℕ × Cursor) Fault) : Type 0 where
+  pub same : r ≡ told given (first_of given)
+  pub low : (x : ℕ) (c : Cursor) → r ≡ Ok (x, c) → x < bound

@@ -7,19 +7,15 @@
 --   items_at s at               == the list at index `at` of s: empty where the line ends at once. A text has no more commas than bytes
 --   numbers_in l                == the numbers of a list, none of a bad one
 --   under bound ns             == all of them are below bound
+--   ListLine                   == a line, and where its list stands and how many numbers it has
 --   no_list, unlisted l         == an empty list; the line l with it
---   list_line s prior key bound == a line `key=a,b,..`, every number below bound: the line, and where its list stands and how many numbers
---                                 it has. The line's form is judged before its ranges
+--   list_from s at key bound    == the line at index `at`, `key=a,b,..`, every number below bound. Its form is judged before its ranges
+--   list_line s prior key bound == so for the line behind `prior`
 --   places_of s l               == the numbers of a list that was read
-use Rattle.std.specs.Prelude.{Bool, true, cond, ◌&&◌, List, [], ◌∷◌, ℕ, zero, suc, ◌+◌, length, get_or, ltb, eqb}
-use Rattle.text.specs.Scan.{number_at, key_at}
-use Rattle.text.specs.Line.{pair, bad_form, judged}
-use Rattle.text.specs.declared.read.Number.{Number}
-use Rattle.text.specs.declared.read.Number.TheVariants.{Value, Bad}
-use Rattle.text.specs.declared.line.Line.{Line}
-use Rattle.text.specs.declared.line.Line.TheVariants as line
+use Rattle.std.specs.Prelude.{Bool, true, cond, ◌&&◌, List, [], ◌∷◌, ℕ, zero, suc, ◌+◌, length, get_or, ltb, eqb, Option, Some, None, Ok, Err}
+use Rattle.text.specs.Scan.{Number, number_at, key_at}
+use Rattle.text.specs.Line.{Line, pair, bad_form, judged}
 use Rattle.text.specs.declared.list.Span.{Span}
-use Rattle.text.specs.declared.list.ListLine.{ListLine}
 
 pub data Items : Type 0 where
   items : List ℕ → ℕ → Items
@@ -30,12 +26,12 @@ ahead v (items vs i) = items (v ∷ vs) i
 ahead v bad = bad
 
 abbrev pub last : Number → Items
-last (Value v i) = items (v ∷ []) i
-last Bad = bad
+last (Some (v, i)) = items (v ∷ []) i
+last None = bad
 
 abbrev pub entry : Number → (ℕ → Items) → Items → Items
-entry (Value v i) next end = ahead v (next i)
-entry Bad next end = end
+entry (Some (v, i)) next end = ahead v (next i)
+entry None next end = end
 
 unfoldable pub entries : ℕ → List ℕ → ℕ → Items
 entries zero s at = last (number_at s at 10)
@@ -52,6 +48,10 @@ unfoldable pub under : ℕ → List ℕ → Bool
 under bound [] = true
 under bound (v ∷ vs) = ltb v bound && under bound vs
 
+pub record ListLine : Type 0 where
+  pub line : Line
+  pub list : Span
+
 abbrev pub no_list : Span
 no_list = record { at = 0; count = 0 }
 
@@ -61,15 +61,18 @@ unlisted l = record { line = l; list = no_list }
 abbrev pub judged_list : List ℕ → ℕ → ℕ → Items → ℕ → ListLine
 judged_list s from at (items vs next) bound =
     record { line = judged s from next (under bound vs) (pair 0 0); list = record { at = at; count = length vs } }
-judged_list s from at bad bound = unlisted (bad_form s from)
+judged_list s from at bad bound = unlisted (Err (bad_form s from))
 
-abbrev pub list_behind : List ℕ → ℕ → Number → ℕ → ListLine
-list_behind s from (Value v at) bound = judged_list s from at (items_at s at) bound
-list_behind s from Bad bound = unlisted (bad_form s from)
+abbrev pub list_behind : List ℕ → ℕ → Option ℕ → ℕ → ListLine
+list_behind s from (Some at) bound = judged_list s from at (items_at s at) bound
+list_behind s from None bound = unlisted (Err (bad_form s from))
+
+abbrev pub list_from : List ℕ → ℕ → List ℕ → ℕ → ListLine
+list_from s from key bound = list_behind s from (key_at s from key) bound
 
 unfoldable pub list_line : List ℕ → Line → List ℕ → ℕ → ListLine
-list_line s (line.Fault f) key bound = unlisted (line.Fault f)
-list_line s (line.Numbers xs c) key bound = list_behind s c.at (key_at s c.at key) bound
+list_line s (Err f) key bound = unlisted (Err f)
+list_line s (Ok (xs, c)) key bound = list_from s c.at key bound
 
 abbrev pub places_of : List ℕ → Span → List ℕ
 places_of s l = numbers_in (items_at s l.at)

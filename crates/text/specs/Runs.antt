@@ -1,13 +1,11 @@
 -- What the code knows of a list while it reads and writes it (no part of the format).
 --   in_front vs l     == the list l with the numbers vs in front
 --   Ran s at bound r == r is what was passed of the list at index `at`: numbers that are each ended by a comma
---   listing bound l  == of a list: how many numbers it has, whether all are below bound, and the index behind it
+--   listing bound l  == of a list of good form: how many numbers it has, whether all are below bound, and the index behind it
 --   Stands s l       == the list l was read in s, and its numbers are bytes
-use Rattle.std.specs.Prelude.{◌≡◌, true, List, ◌++◌, ℕ, ◌≤◌, length}
+use Rattle.std.specs.Prelude.{◌≡◌, true, List, ◌++◌, ℕ, ◌≤◌, length, Option, Some, None}
 use Rattle.text.specs.Scan.{number_at}
 use Rattle.text.specs.List.{Items, items, bad, last, entries, under, places_of}
-use Rattle.text.specs.declared.list.Listing.{Listing}
-use Rattle.text.specs.declared.list.Listing.TheVariants as found
 use Rattle.text.specs.declared.list.Run.{Run}
 use Rattle.text.specs.declared.list.Span.{Span}
 
@@ -22,9 +20,9 @@ pub record Ran (s : List ℕ) (at bound : ℕ) (r : Run) : Type 0 where
   pub fit : r.fit ≡ under bound numbers
   pub same : entries (length s) s at ≡ in_front numbers (last (number_at s r.next 10))
 
-abbrev pub listing : ℕ → Items → Listing
-listing bound (items vs i) = found.Items (record { count = length vs; fit = under bound vs; next = i })
-listing bound bad = found.Bad
+abbrev pub listing : ℕ → Items → Option Run
+listing bound (items vs i) = Some (record { count = length vs; fit = under bound vs; next = i })
+listing bound bad = None
 
 pub record Stands (s : List ℕ) (l : Span) : Type 0 where
   pub whole : length (places_of s l) ≡ l.count

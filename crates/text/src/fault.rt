@@ -3,7 +3,7 @@ ghost use Rattle.std.specs.Prelude.{◌≡◌};
 ghost use Rattle.text.specs.Fault.{number, line_of};
 
 // Its form, the range of its numbers, or that a line before has the same ones; with the line, from 1.
-#[derive(Clone, Copy)]
+#[derive(Clone, Copy, Debug, PartialEq, Eq)]
 pub enum Fault {
     Form(usize),
     Range(usize),
@@ -26,8 +26,6 @@ pub fn fault_line(fault: Fault) -> usize
     ensures { result ≡ line_of fault }
 {
     match fault {
-        Fault::Form(line) => line,
-        Fault::Range(line) => line,
-        Fault::Doubled(line) => line,
+        Fault::Form(line) | Fault::Range(line) | Fault::Doubled(line) => line,
     }
 }

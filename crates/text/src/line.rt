@@ -1,19 +1,19 @@
-//! A line of a text, read: its numbers with the next cursor, or its fault. A line is read behind the line before it; once a
-//! line has a fault, every later one is that fault again, so a sequence of lines has no branch.
+//! A line of a text, read: its numbers with the next cursor, or its fault. A line is read from a cursor, so that `?` hands on the
+//! first fault of a sequence of lines.
 ghost use Rattle.std.specs.Prelude.{◌≡◌, ◌≤◌};
-ghost use Rattle.text.specs.Line.{pair, bad_form, judged, within, line_of_one, OneRead, numbers_of, top, finish};
+ghost use Rattle.text.specs.Line.{pair, bad_form, judged, within, one_from, OneRead, start, ended};
 
 use crate::fault::Fault;
-use crate::read::{Number, key_at, line_at, next_number};
+use crate::read::{line_at, number_behind};
 
 // Where the next line begins.
-#[derive(Clone, Copy)]
+#[derive(Clone, Copy, Debug, PartialEq, Eq)]
 pub struct Cursor {
     pub at: usize,
 }
 
 // The numbers of a line in their order, 0 where it has fewer.
-#[derive(Clone, Copy)]
+#[derive(Clone, Copy, Debug, PartialEq, Eq)]
 pub struct Numbers {
     pub first: u32,
     pub second: u32,
@@ -22,11 +22,7 @@ pub struct Numbers {
     pub fifth: u32,
 }
 
-#[derive(Clone, Copy)]
-pub enum Line {
-    Numbers(Numbers, Cursor),
-    Fault(Fault),
-}
+pub type Line = Result<(Numbers, Cursor), Fault>;
 
 // Two numbers.
 pub fn pair(x: u32, y: u32) -> Numbers
@@ -41,84 +37,67 @@ pub fn pair(x: u32, y: u32) -> Numbers
     }
 }
 
-// The line at index `from` has a bad form.
-pub fn bad_form(s: &[u8], from: usize) -> Line
+// What is wrong with the line at index `from` if it has a bad form.
+pub fn bad_form(s: &[u8], from: usize) -> Fault
     ensures { result ≡ bad_form s.now from }
 {
-    Line::Fault(Fault::Form(line_at(s, from)))
+    Fault::Form(line_at(s, from))
 }
 
-// The line at index `from` of good form, with the next one at index `at`: its numbers, if they fit their ranges.
-pub fn judged(s: &[u8], from: usize, at: usize, fit: bool, xs: Numbers) -> Line
-    ensures { result ≡ judged s.now from at fit xs }
+// The line at index `from` of good form, with the next one at index `at`: what was read of it, if its numbers fit their ranges.
+pub fn judged<T: Copy>(
+    s: &[u8],
+    from: usize,
+    at: usize,
+    fit: bool,
+    x: T,
+) -> Result<(T, Cursor), Fault>
+    ensures { result ≡ judged s.now from at fit x }
 {
     if fit {
-        return Line::Numbers(xs, Cursor { at });
+        Ok((x, Cursor { at }))
+    } else {
+        Err(Fault::Range(line_at(s, from)))
     }
-    Line::Fault(Fault::Range(line_at(s, from)))
 }
 
+#[tactic(auto, unfolding(crate::specs::Line::within))]
 fn within(x: u32, low: u32, bound: u32) -> bool
     ensures { result ≡ within x low bound }
 {
-    if x < low {
-        return false;
-    }
-    x < bound
+    low <= x && x < bound
 }
 
-// A line `key=a` with a from `low` to below `bound`.
-pub fn line_of_one(s: &[u8], prior: Line, key: &[u8], low: u32, bound: u32) -> Line
+// A line `key=a` with a from `low` to below `bound`: the number a, and the next cursor.
+pub fn line_of_one(
+    s: &[u8],
+    from: Cursor,
+    key: &[u8],
+    low: u32,
+    bound: u32,
+) -> Result<(u32, Cursor), Fault>
     requires { bound ≤ 4000000000 }
-    ensures { OneRead (line_of_one s.now prior key.now low bound) bound result }
+    ensures { OneRead (one_from s.now from.at key.now low bound) bound result }
 {
-    let Line::Numbers(_, cursor) = prior else {
-        return prior;
+    let Some((x, at)) = number_behind(s, from.at, key, b'\n') else {
+        return Err(bad_form(s, from.at));
     };
-    let from = cursor.at;
-    let a = next_number(s, key_at(s, from, key), b'\n');
-    let Number::Value(x, at) = a else {
-        return bad_form(s, from);
-    };
-    judged(s, from, at, within(x, low, bound), pair(x, 0))
-}
-
-// The numbers of a line, 0 of a fault.
-pub fn numbers_of(l: Line) -> Numbers
-    ensures { result ≡ numbers_of l }
-{
-    match l {
-        Line::Numbers(xs, _) => xs,
-        Line::Fault(_) => pair(0, 0),
-    }
-}
-
-// The first of them.
-pub fn first_of(l: Line) -> u32
-    ensures { result ≡ (numbers_of l).first }
-{
-    let xs = numbers_of(l);
-    xs.first
+    judged(s, from.at, at, within(x, low, bound), x)
 }
 
 // Before the first line.
-pub fn top() -> Line
-    ensures { result ≡ top }
+pub fn top() -> Cursor
+    ensures { result ≡ start }
 {
-    Line::Numbers(pair(0, 0), Cursor { at: 0 })
+    Cursor { at: 0 }
 }
 
-// The last line again, if nothing follows it.
-pub fn finish(s: &[u8], last: Line) -> Line
-    ensures { result ≡ finish s.now last }
+// Whether the text ends here, as a line that is still there has a bad form.
+pub fn finish(s: &[u8], end: Cursor) -> Result<(), Fault>
+    ensures { result ≡ ended s.now end.at }
 {
-    let Line::Numbers(_, end) = last else {
-        return last;
-    };
-    let at = end.at;
-    if at < s.len() {
-        Line::Fault(Fault::Form(line_at(s, at)))
-    } else {
-        last
+    if end.at < s.len() {
+        return Err(bad_form(s, end.at));
     }
+    Ok(())
 }

@@ -17,12 +17,9 @@ pub fn put_bytes(out: &mut [u8], at: usize, bytes: &[u8]) -> usize
     requires { at + length bytes.now ≤ length out.old }
     ensures { Wrote out.old at bytes.now out.new result }
 {
-    let mut i = 0;
-    while i < bytes.len() {
-        out[at + i] = bytes[i];
-        i += 1;
-    }
-    at + i
+    let end = at + bytes.len();
+    out[at..end].copy_from_slice(bytes);
+    end
 }
 
 // A digit as a byte of text.
@@ -45,23 +42,15 @@ pub fn put_decimal(out: &mut [u8], at: usize, x: u32) -> usize
     put_byte(out, next, glyph(x % 10))
 }
 
-fn wide(x: u8) -> u32
-    ensures { result ≡ x }
-{
-    x as u32
-}
-
 // Each number in decimal behind a comma.
 fn put_commaed(out: &mut [u8], at: usize, numbers: &[u8]) -> usize
     requires { at + length (commaed numbers.now) ≤ length out.old }
     ensures { Wrote out.old at (commaed numbers.now) out.new result }
 {
     let mut next = at;
-    let mut i = 0;
-    while i < numbers.len() {
-        let number = put_byte(out, next, b',');
-        next = put_decimal(out, number, wide(numbers[i]));
-        i += 1;
+    for number in numbers {
+        next = put_byte(out, next, b',');
+        next = put_decimal(out, next, u32::from(*number));
     }
     next
 }
@@ -71,11 +60,11 @@ pub fn put_joined(out: &mut [u8], at: usize, numbers: &[u8]) -> usize
     requires { at + length (joined numbers.now) ≤ length out.old }
     ensures { Wrote out.old at (joined numbers.now) out.new result }
 {
-    if numbers.len() == 0 {
+    let Some((first, others)) = numbers.split_first() else {
         return at;
-    }
-    let next = put_decimal(out, at, wide(numbers[0]));
-    put_commaed(out, next, &numbers[1..])
+    };
+    let next = put_decimal(out, at, u32::from(*first));
+    put_commaed(out, next, others)
 }
 
 // A line `key=x`; the key has its equals sign.

@@ -1,15 +1,10 @@
--- `put_block` meets its contract: each call writes the next field, and the eight together are the block (`block_done`).
+-- `put_block` meets its contract: the first twelve bytes, and both lengths behind them (`block_done`).
 use Rattle.answer.proofs.Blocks.{block_done}
 use Rattle.answer.proofs.put_block.Goals as goal
 
 pub returns : goal.returns
 returns c =
     block_done c.args.a c.requires
-    c.put_little.ensures
-    c.put_little-2.ensures
-    c.put_little-3.ensures
-    c.put_little-4.ensures
-    c.put_little-5.ensures
-    c.put_little-6.ensures
-    c.put_little-7.ensures
-    c.put_little-8.ensures
+    (rw (c.from.ensures, c.from-2.ensures, c.from-3.ensures) at c.put_head.ensures)
+    (rw c.from-4.ensures at c.put_little.ensures)
+    (rw c.from-5.ensures at c.put_little-2.ensures)

@@ -5,18 +5,18 @@ use Rattle.checktour.proofs.check_text.Goals as goal
 
 pub slice_bounds-check_tour-end : goal.slice_bounds-check_tour-end
 slice_bounds-check_tour-end g c =
-    let f = tour_fits _ _ _ _ _ c.read_tour-drawn.ensures.value c.in-Tour.is in omega (arith, f.0, c.read_tour-drawn.auto.runin)
+    let f = tour_fits _ _ _ c.in-Ok.x _ c.read_tour.ensures.value c.in-Ok.is in omega (arith, f.0, c.read_tour.auto.runin)
 
-pub slice_bounds-check_tour-end-in-Tour : goal.slice_bounds-check_tour-end-in-Tour
-slice_bounds-check_tour-end-in-Tour g c =
-    let f = tour_fits _ _ _ _ _ c.read_tour-drawn.ensures.value c.in-Tour.is in
-    sym (length-take-le c.in-Tour.x.stem c.read_tour-drawn.new.runin (omega (arith, f.0, c.read_tour-drawn.auto.runin)))
+pub slice_bounds-check_tour-end-in-Ok : goal.slice_bounds-check_tour-end-in-Ok
+slice_bounds-check_tour-end-in-Ok g c =
+    let f = tour_fits _ _ _ c.in-Ok.x _ c.read_tour.ensures.value c.in-Ok.is in
+    sym (length-take-le c.in-Ok.x.stem c.read_tour.new.runin (omega (arith, f.0, c.read_tour.auto.runin)))
 
-pub slice_bounds-check_tour-end-in-Tour-2 : goal.slice_bounds-check_tour-end-in-Tour-2
-slice_bounds-check_tour-end-in-Tour-2 g c =
-    let f = tour_fits _ _ _ _ _ c.read_tour-drawn.ensures.value c.in-Tour.is in omega (arith, f.1, c.read_tour-drawn.auto.cycle)
+pub slice_bounds-check_tour-end-in-Ok-2 : goal.slice_bounds-check_tour-end-in-Ok-2
+slice_bounds-check_tour-end-in-Ok-2 g c =
+    let f = tour_fits _ _ _ c.in-Ok.x _ c.read_tour.ensures.value c.in-Ok.is in omega (arith, f.1, c.read_tour.auto.cycle)
 
-pub slice_bounds-check_tour-end-in-Tour-3 : goal.slice_bounds-check_tour-end-in-Tour-3
-slice_bounds-check_tour-end-in-Tour-3 g c =
-    let f = tour_fits _ _ _ _ _ c.read_tour-drawn.ensures.value c.in-Tour.is in
-    sym (length-take-le c.in-Tour.x.cycle c.read_tour-drawn.new.cycle (omega (arith, f.1, c.read_tour-drawn.auto.cycle)))
+pub slice_bounds-check_tour-end-in-Ok-3 : goal.slice_bounds-check_tour-end-in-Ok-3
+slice_bounds-check_tour-end-in-Ok-3 g c =
+    let f = tour_fits _ _ _ c.in-Ok.x _ c.read_tour.ensures.value c.in-Ok.is in
+    sym (length-take-le c.in-Ok.x.cycle c.read_tour.new.cycle (omega (arith, f.1, c.read_tour.auto.cycle)))

@@ -8,16 +8,16 @@ use Rattle.frames.proofs.next.Goals as goal
 pub returns-clause-bytes : goal.returns-clause-bytes
 returns-clause-bytes g c =
     let head = c.read_full-got.new.buffer in
-    let part = c.read_full-length.new.buffer in
+    let part = c.read_full.new.buffer in
     let n = c.length_in-n.result in
-    let k = c.read_full-length.result in
+    let k = c.read_full.result in
     let rest = drop n c.args.buffer.now in
     let whole = take_all c.read_full-got.result head (search rules) in
-    let front = take-append-le k part rest c.read_full-length.ensures.front in
+    let front = take-append-le k part rest c.read_full.ensures.front in
     let room = length-take-le n c.args.buffer.now (omega arith) in
-    λ _. record {
+    record {
       head = head;
       whole = search rules;
-      long = omega (arith, c.read_full-length.ensures.front, c.read_full-length.auto.buffer, room, c.length_in-n.ensures);
-      bytes = subst (Consumes _ _) (ap (λ l. l ++ take k part) whole ∙ ap (λ l. head ++ l) (sym front)) (Consumes-trans _ _ _ _ _ c.read_full-got.ensures.bytes c.read_full-length.ensures.bytes);
+      long = omega (arith, c.read_full.ensures.front, c.read_full.auto.buffer, room, c.length_in-n.ensures);
+      bytes = subst (Consumes _ _) (ap (λ l. l ++ take k part) whole ∙ ap (λ l. head ++ l) (sym front)) (Consumes-trans _ _ _ _ _ c.read_full-got.ensures.bytes c.read_full.ensures.bytes);
     }

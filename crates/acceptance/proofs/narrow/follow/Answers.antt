@@ -1,53 +1,34 @@
 -- `follow` meets its contract: what is left of the list leads on from the states reached.
-use mathlib.Core.Path.{ap}
-use Prim.Native.Nat.{◌+◌, ◌<◌}
+use mathlib.Core.Path.{ap, ◌∙◌}
+use Prim.Native.Nat.{◌<◌}
 use native.Mathlib.Omega.{arith}
-use borrow.Author.Rules.{rules}
 use lib.ListN.{get_or}
-use Rattle.acceptance.proofs.Courses.{one_byte, byte, looked, ending_start, ending_step, ending_end}
+use Rattle.acceptance.proofs.Courses.{byte, looked, row_part, ending_start, ending_step, ending_end}
 use Rattle.acceptance.proofs.narrow.follow.Goals as goal
 
-pub overflow_cast-reached : goal.overflow_cast-reached
-overflow_cast-reached c =
-    let small : c.one-reached.result < 256 = one_byte c.args.first c.args.n c.one-reached.result c.requires.1 c.requires.3 c.one-reached.ensures.0 in
-    search (rules, small)
+pub loop-v-init : goal.loop-v-init
+loop-v-init c =
+    let r = c.args.rule in
+    ending_start r.steps.now r.states c.requires.0 (record { narrow = r.narrow }) c.args.list.now r.first c.one-reached.result r.begins c.one-reached.ensures.0
 
-pub loop-i-init : goal.loop-i-init
-loop-i-init c =
-    let a = c.args in
-    (ending_start a.steps.now a.n c.requires.1 c.requires.4 a.list.now a.first c.one-reached.result c.requires.3 c.one-reached.ensures.0, omega arith)
+pub bounds-row-from : goal.bounds-row-from
+bounds-row-from c =
+    let r = c.args.rule in
+    let small : c.loop-v.reached < 256 = byte r.steps.now r.states c.requires.0 (record { narrow = r.narrow }) c.loop-v.reached c.loop-v.invariant.small in
+    omega (arith, c.from.ensures, c.row.ensures.1)
 
-pub row_of-at-requires : goal.row_of-at-requires
-row_of-at-requires c = omega (arith, c.requires.6 c.loop-i.i, c.requires.2)
-
-pub overflow_cast-reached-in-loop-i : goal.overflow_cast-reached-in-loop-i
-overflow_cast-reached-in-loop-i c =
-    let within : c.loop-i.reached < 256 = byte c.args.steps.now c.args.n c.requires.1 c.requires.4 c.loop-i.reached c.loop-i.invariant.0.small in
-    search (rules, within)
-
-pub overflow_add-reached : goal.overflow_add-reached
-overflow_add-reached c =
-    let within : c.loop-i.reached < 256 = byte c.args.steps.now c.args.n c.requires.1 c.requires.4 c.loop-i.reached c.loop-i.invariant.0.small in
-    search (rules, within, c.row_of-at.ensures.1)
-
-pub bounds-sets-at : goal.bounds-sets-at
-bounds-sets-at c =
-    let within : c.loop-i.reached < 256 = byte c.args.steps.now c.args.n c.requires.1 c.requires.4 c.loop-i.reached c.loop-i.invariant.0.small in
-    omega (arith, c.row_of-at.ensures.1, within, c.requires.0)
-
-pub loop-i-preserved : goal.loop-i-preserved
-loop-i-preserved c =
-    let a = c.args in
-    let l = c.loop-i in
-    let v = get_or a.list.now l.i 0 in (
-      ending_step a.steps.now a.n c.requires.1 c.requires.4 a.list.now a.first l.i l.reached _ (omega arith) l.invariant.0
-          (looked a.steps.now a.n c.requires.1 c.requires.4 a.places v l.reached _ a.sets.now (c.requires.6 l.i) c.requires.5 l.invariant.0.small
-          (ap (λ c. get_or a.sets.now (c + l.reached) 0) c.row_of-at.ensures.0)),
-      omega arith,
-    )
+pub loop-v-preserved : goal.loop-v-preserved
+loop-v-preserved c =
+    let r = c.args.rule in
+    let l = c.loop-v in
+    let v = get_or c.args.list.now l.v-index 0 in
+    let small : l.reached < 256 = byte r.steps.now r.states c.requires.0 (record { narrow = r.narrow }) l.reached l.invariant.small in
+    ending_step r.steps.now r.states c.requires.0 (record { narrow = r.narrow }) c.args.list.now r.first l.v-index l.reached _ (omega arith) l.invariant
+    (looked r.steps.now r.states c.requires.0 (record { narrow = r.narrow }) r.places v l.reached _ c.args.sets.now (c.requires.2 l.v-index) c.requires.1 l.invariant.small
+    (ap (λ x. get_or c.row.result.now x 0) c.from.ensures ∙ row_part c.args.sets.now c.row.result.now v c.row.ensures.0 l.reached small))
 
 pub returns : goal.returns
 returns c =
-    let a = c.args in
-    let l = c.loop-i in
-    ending_end a.steps.now a.n c.requires.1 c.requires.4 a.list.now a.first l.i l.reached (omega (arith, l.invariant.1)) l.invariant.0
+    let r = c.args.rule in
+    let l = c.loop-v in
+    ending_end r.steps.now r.states c.requires.0 (record { narrow = r.narrow }) c.args.list.now r.first l.v-index l.reached (omega arith) l.invariant

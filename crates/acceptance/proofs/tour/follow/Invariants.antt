@@ -1,10 +1,6 @@
-use Prim.Native.Nat.{◌-◌, ◌≤◌}
-use lib.ListN.{length}
+use Prim.Native.Nat.{◌^◌}
 use Rattle.acceptance.specs.Table.{Following}
 use Rattle.acceptance.proofs.tour.follow.Given as goal
 
-abbrev pub invariant-loop-i : goal.invariant-loop-i
-invariant-loop-i l = Following l.steps l.places l.set l.i l.reached × (l.i ≤ length l.places)
-
-abbrev pub decreases-loop-i : goal.decreases-loop-i
-decreases-loop-i l = length l.places - l.i
+abbrev pub invariant-loop-v : goal.invariant-loop-v
+invariant-loop-v l = Following l.steps l.list (2 ^ l.rule.first) l.v-index l.reached

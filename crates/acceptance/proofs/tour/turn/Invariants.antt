@@ -1,10 +1,6 @@
-use Prim.Native.Nat.{◌≤◌}
-use lib.ListN.{length, drop}
+use lib.ListN.{drop}
 use Rattle.acceptance.specs.Table.{Turned}
 use Rattle.acceptance.proofs.tour.turn.Given as goal
 
 abbrev pub invariant-loop-i : goal.invariant-loop-i
-invariant-loop-i l = Turned l.steps l.n l.accept (drop l.i l.cycle) l.n l.rows × (l.i ≤ length l.cycle)
-
-abbrev pub decreases-loop-i : goal.decreases-loop-i
-decreases-loop-i l = l.i
+invariant-loop-i l = Turned l.rule.steps.now l.rule.states l.rule.accept (drop l.i l.cycle) l.rule.states l.rows

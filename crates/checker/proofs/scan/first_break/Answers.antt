@@ -5,5 +5,5 @@ use lib.ListN.{length-replicate}
 use Rattle.checker.proofs.Roads.{replicate_blank}
 use Rattle.checker.proofs.scan.first_break.Goals as goal
 
-pub break_on-requires : goal.break_on-requires
-break_on-requires c = (c.requires, replicate_blank 16512 (omega arith), length-replicate {A = ℕ} 16512 0)
+pub chart-requires : goal.chart-requires
+chart-requires c = (c.requires, replicate_blank 16512 (omega arith), length-replicate {A = ℕ} 16512 0)

@@ -1,45 +1,50 @@
--- `move_block` meets its contract. The loop keeps that the moves read so far and the lines still to be read make up the block.
+-- `move_block` meets its contract: the loop keeps which moves are read, and where the last line ends.
+use mathlib.Core.Path.{◌≡◌, refl, sym, ◌∙◌}
+use mathlib.Core.List.{List, ◌++◌}
 use native.Mathlib.Omega.{arith}
-use Rattle.reader.proofs.Lines.{byte}
-use Rattle.reader.proofs.Filling.{rest_step, rest_end}
-use Rattle.reader.proofs.Steps.{moves_start, move-step}
 use borrow.Author.Rules.{rules}
+use lib.ListN.{take, drop, replicate, take-append-drop}
+use Rattle.std.proofs.lemmas.List.{set-append_left}
+use Rattle.std.proofs.lemmas.Result.{err_from_is_err_and}
+use Rattle.automata.specs.declared.Move.{Move}
+use Rattle.automata.specs.Automaton.{no_move}
+use Rattle.reader.specs.Blocks.{move_of}
+use Rattle.reader.proofs.Steps.{moves_begun, move_read, move_fault, moves_done}
 use Rattle.reader.proofs.block.move_block.Goals as goal
 
-pub loop-i-init : goal.loop-i-init
-loop-i-init c = record { within = omega arith; room = search rules; state_bytes = search rules; label_bytes = search rules; same = moves_start _ _ _ _ _ }
-
-pub overflow_cast-from : goal.overflow_cast-from
-overflow_cast-from c =
-    record { fits = byte (λ xs. xs.first) _ _ _ c.numbers_of-xs.ensures c.move_line-line.ensures.first_low c.loop-i.invariant.state_bytes }
-
-pub overflow_cast-need : goal.overflow_cast-need
-overflow_cast-need c =
-    record { fits = byte (λ xs. xs.second) _ _ _ c.numbers_of-xs.ensures c.move_line-line.ensures.second_low c.loop-i.invariant.label_bytes }
-
-pub overflow_cast-bar : goal.overflow_cast-bar
-overflow_cast-bar c =
-    record { fits = byte (λ xs. xs.third) _ _ _ c.numbers_of-xs.ensures c.move_line-line.ensures.third_low c.loop-i.invariant.label_bytes }
-
-pub overflow_cast-any : goal.overflow_cast-any
-overflow_cast-any c =
-    record { fits = byte (λ xs. xs.fourth) _ _ _ c.numbers_of-xs.ensures c.move_line-line.ensures.fourth_low c.loop-i.invariant.label_bytes }
-
-pub overflow_cast-to : goal.overflow_cast-to
-overflow_cast-to c =
-    record { fits = byte (λ xs. xs.fifth) _ _ _ c.numbers_of-xs.ensures c.move_line-line.ensures.fifth_low c.loop-i.invariant.state_bytes }
-
-pub loop-i-preserved : goal.loop-i-preserved
-loop-i-preserved c =
-    let l = c.loop-i in
+pub loop-m-init : goal.loop-m-init
+loop-m-init c =
+    let a = c.args in
+    let zeros : List Move = replicate 64 no_move in
+    let whole : take a.n zeros ++ drop a.n zeros ≡ zeros = take-append-drop a.n zeros in
     record {
-      within = omega arith;
-      room = l.invariant.room;
-      state_bytes = l.invariant.state_bytes;
-      label_bytes = l.invariant.label_bytes;
-      same = rest_step _ _ _ _ _ l.invariant.same c.loop-i-test.true _
-          (move-step _ _ _ _ _ _ l.from l.need l.bar l.any l.to _ c.move_line-line.ensures.same c.numbers_of-xs.ensures);
+      size = search rules;
+      last = search rules;
+      read = λ xs. rw c.no_move-moves.ensures (rw whole (moves_begun a.s.now a.n a.states a.labels xs a.from no_move refl));
+    }
+
+pub returns-in_err-xs : goal.returns-in_err-xs
+returns-in_err-xs c xs =
+    let l = c.loop-m in
+    let p = err_from_is_err_and c.from_residual.result c.from_residual.ensures.1 in
+    rw (p.1, p.2)
+    (move_fault _ _ _ _ _ _ _ _ _ (l.invariant.read xs) (omega (arith, c.loop-m-test.true, l.invariant.last)) _
+    (sym c.move_line.ensures.same ∙ c.in_err-xs.was))
+
+pub loop-m-preserved : goal.loop-m-preserved
+loop-m-preserved c =
+    let l = c.loop-m in
+    let zeros : List Move = replicate 64 no_move in
+    record {
+      size = search (rules, l.invariant.size);
+      last = l.invariant.last;
+      read = λ xs.
+          rw (← set-append_left l.m-items (drop c.args.n zeros) l.m-index (move_of c.in_ok-xs.xs) (omega (arith, c.loop-m-test.true, l.invariant.size, l.invariant.last)))
+          (move_read _ _ _ _ _ _ _ _ _ (l.invariant.read xs) (omega (arith, c.loop-m-test.true, l.invariant.last)) _ _
+          (sym c.move_line.ensures.same ∙ c.in_ok-xs.was));
     }
 
 pub returns : goal.returns
-returns c = rest_end _ _ _ _ _ c.loop-i.invariant.same c.loop-i-test.false
+returns c xs =
+    let l = c.loop-m in
+    rw c.no_move-moves.ensures (moves_done _ _ _ _ _ _ _ _ _ (l.invariant.read xs) (omega (arith, c.loop-m-test.false, l.invariant.last)))

@@ -1,21 +1,19 @@
 use mathlib.Core.Path.{◌≡◌}
-use mathlib.Core.List.{List}
-use Prim.Native.Nat.{ℕ, ◌-◌, ◌≤◌}
-use Rattle.reader.specs.Blocks.{move_step, move_block}
-use Rattle.text.specs.declared.line.Line.{Line}
-use Rattle.reader.proofs.Filling.{rest}
-use Rattle.reader.proofs.Steps.{moves_in}
+use mathlib.Core.List.{List, ◌++◌}
+use Prim.Native.Nat.{ℕ}
+use lib.ListN.{length, drop, replicate}
+use Rattle.automata.specs.declared.Move.{Move}
+use Rattle.automata.specs.Automaton.{no_move}
+use Rattle.text.specs.declared.line.Cursor.{Cursor}
+use Rattle.text.specs.declared.line.Numbers.{Numbers}
+use Rattle.reader.proofs.Steps.{MovesRead}
 use Rattle.reader.proofs.block.move_block.Given as goal
 
-pub record Read (s : List ℕ) (n states labels : ℕ) (prior line : Line) (from need bar any to : List ℕ) (i : ℕ) : Type 0 where
-  pub within : i ≤ n
-  pub room : n ≤ 64
-  pub state_bytes : states ≤ 256
-  pub label_bytes : labels ≤ 256
-  pub same : move_block s prior n states labels ≡ rest n (move_step s states labels) i (moves_in line from need bar any to)
+-- i of n moves are read; behind those and what is lent for the others stand moves of zeros
+pub record Moved (s : List ℕ) (n states labels : ℕ) (from c : Cursor) (items : List Move) (i end : ℕ) : Type 0 where
+  pub size : length items ≡ n
+  pub last : end ≡ n
+  pub read : (xs : Numbers) → MovesRead s n states labels xs from c (items ++ drop n (replicate 64 no_move)) i
 
-abbrev pub invariant-loop-i : goal.invariant-loop-i
-invariant-loop-i l = Read l.s l.n l.states l.labels l.initial.line l.line l.from l.need l.bar l.any l.to l.i
-
-abbrev pub decreases-loop-i : goal.decreases-loop-i
-decreases-loop-i l = l.n - l.i
+abbrev pub invariant-loop-m : goal.invariant-loop-m
+invariant-loop-m l = Moved l.s l.n l.states l.labels l.initial.cursor l.cursor l.m-items l.m-index l.m-index-end

@@ -1,49 +1,61 @@
--- `road_block` meets its contract. The loop keeps that the roads read so far and the lines still to be read make up the block, and that, as long
--- as no line has a fault, the pairs noted are those read so far.
-use mathlib.Core.Path.{◌∙◌}
+-- `road_block` meets its contract: the loop keeps which roads are read, where the last line ends, and that the pairs noted are theirs.
+use mathlib.Core.Path.{◌≡◌, sym, ◌∙◌}
+use mathlib.Core.List.{List, ◌++◌}
 use native.Mathlib.Omega.{arith}
-use lib.ListN.{replicate}
-use Rattle.reader.proofs.Lines.{byte}
-use Rattle.reader.proofs.Filling.{rest_step, rest_end}
-use Rattle.reader.proofs.Steps.{roads_start, road-step}
-use Rattle.reader.proofs.Noting.{noted_start, noted_after, road_by}
 use borrow.Author.Rules.{rules}
+use lib.ListN.{take, drop, replicate, length-append, take-append-drop}
+use Rattle.std.proofs.lemmas.List.{set-append_left}
+use Rattle.std.proofs.lemmas.Result.{err_from_is_err_and}
+use Rattle.plan.specs.declared.Road.{Road}
+use Rattle.plan.specs.WellFormed.{no_road}
+use Rattle.text.specs.Line.{top}
+use Rattle.reader.specs.Blocks.{road_of}
+use Rattle.reader.proofs.Steps.{roads_begun, road_read, road_fault, roads_done}
+use Rattle.reader.proofs.Noting.{noted_start, noted_behind, road_noted}
 use Rattle.reader.proofs.block.road_block.Goals as goal
 
-pub loop-i-init : goal.loop-i-init
-loop-i-init c = record {
-  within = omega arith;
-  room = search rules;
-  bytes = search rules;
-  from_room = search rules;
-  to_room = search rules;
-  pairs_room = search rules;
-  noted = λ e. noted_start c.args.prior (replicate 1024 0) (replicate 1024 0);
-  same = roads_start _ _ _ _;
-}
-
-pub overflow_cast-from : goal.overflow_cast-from
-overflow_cast-from c =
-    record { fits = byte (λ xs. xs.first) _ _ _ c.numbers_of-xs.ensures c.road_line-line.ensures.first_low (omega (arith, c.loop-i.invariant.bytes)) }
-
-pub overflow_cast-to : goal.overflow_cast-to
-overflow_cast-to c =
-    record { fits = byte (λ xs. xs.second) _ _ _ c.numbers_of-xs.ensures c.road_line-line.ensures.second_low (omega (arith, c.loop-i.invariant.bytes)) }
-
-pub loop-i-preserved : goal.loop-i-preserved
-loop-i-preserved c =
-    let l = c.loop-i in let r = c.road_line-line.ensures in
+pub loop-road-init : goal.loop-road-init
+loop-road-init c =
+    let a = c.args in
+    let zeros : List Road = replicate 1024 no_road in
+    let whole : take a.n zeros ++ drop a.n zeros ≡ zeros = take-append-drop a.n zeros in
     record {
-      within = omega arith;
-      room = l.invariant.room;
-      bytes = l.invariant.bytes;
-      from_room = search rules;
-      to_room = search rules;
+      size = search rules;
+      last = search rules;
       pairs_room = search rules;
-      noted = noted_after _ _ _ _ _ _ l.from l.to _ _ _ _ l.invariant.bytes l.invariant.noted l.invariant.pairs_room (omega arith) (omega arith) r c.numbers_of-xs.ensures;
-      same = rest_step _ _ _ _ _ l.invariant.same c.loop-i-test.true _
-          (road-step _ _ _ _ _ l.from l.to _ (r.same ∙ road_by _ _ _ _ _ _ l.invariant.bytes l.invariant.noted) c.numbers_of-xs.ensures);
+      noted = rw whole (noted_start top zeros);
+      read = λ xs. rw whole (roads_begun a.s.now a.n a.bound xs a.from);
+    }
+
+pub returns-in_err-xs : goal.returns-in_err-xs
+returns-in_err-xs c xs =
+    let l = c.loop-road in
+    let p = err_from_is_err_and c.from_residual.result c.from_residual.ensures.1 in
+    rw (p.1, p.2)
+    (road_fault _ _ _ _ _ _ _ _ (l.invariant.read xs) (omega (arith, c.loop-road-test.true, l.invariant.last)) _
+    (sym (c.road_line.ensures.same ∙ road_noted _ _ _ _ _ c.requires.1 l.invariant.noted _) ∙ c.in_err-xs.was))
+
+pub loop-road-preserved : goal.loop-road-preserved
+loop-road-preserved c =
+    let l = c.loop-road in
+    let zeros : List Road = replicate 1024 no_road in
+    let behind = drop c.args.n zeros in
+    let o = set-append_left l.road-items behind l.road-index (road_of c.in_ok-xs.xs) (omega (arith, c.loop-road-test.true, l.invariant.size, l.invariant.last)) in
+    record {
+      size = search (rules, l.invariant.size);
+      last = l.invariant.last;
+      pairs_room = search rules;
+      noted =
+          rw (← o)
+          (noted_behind _ top _ _ (l.road-items ++ behind) _ _ _ _ _ c.requires.1 l.invariant.noted l.invariant.pairs_room
+          (omega (arith, length-append l.road-items behind, c.loop-road-test.true, l.invariant.size, l.invariant.last)) c.road_line.ensures c.in_ok-xs.was);
+      read = λ xs.
+          rw (← o)
+          (road_read _ _ _ _ _ _ (l.road-items ++ behind) _ (l.invariant.read xs) (omega (arith, c.loop-road-test.true, l.invariant.last)) _ _
+          (sym (c.road_line.ensures.same ∙ road_noted _ _ _ _ _ c.requires.1 l.invariant.noted _) ∙ c.in_ok-xs.was));
     }
 
 pub returns : goal.returns
-returns c = rest_end _ _ _ _ _ c.loop-i.invariant.same c.loop-i-test.false
+returns c xs =
+    let l = c.loop-road in
+    roads_done _ _ _ _ _ _ _ _ (l.invariant.read xs) (omega (arith, c.loop-road-test.false, l.invariant.last))

@@ -1,28 +1,24 @@
 use mathlib.Core.Path.{◌≡◌}
-use mathlib.Core.Bool.{true}
-use mathlib.Core.List.{List}
-use Prim.Native.Nat.{ℕ, ◌-◌, ◌≤◌}
-use lib.ListN.{length}
-use Rattle.text.specs.Line.{good}
-use Rattle.text.specs.declared.line.Line.{Line}
+use mathlib.Core.List.{List, ◌++◌}
+use Prim.Native.Nat.{ℕ}
+use lib.ListN.{length, drop, replicate}
+use Rattle.plan.specs.declared.Road.{Road}
+use Rattle.plan.specs.WellFormed.{no_road}
+use Rattle.text.specs.Line.{top}
+use Rattle.text.specs.declared.line.Cursor.{Cursor}
+use Rattle.text.specs.declared.line.Numbers.{Numbers}
 use Rattle.reader.specs.Pairs.{Noted}
-use Rattle.reader.specs.Blocks.{earlier, road_step, road_block}
-use Rattle.reader.proofs.Filling.{rest}
-use Rattle.reader.proofs.Steps.{roads_in}
+use Rattle.reader.specs.Blocks.{earlier}
+use Rattle.reader.proofs.Steps.{roads_in, RoadsRead}
 use Rattle.reader.proofs.block.road_block.Given as goal
 
-pub record Read (s : List ℕ) (n bound : ℕ) (prior line : Line) (from to pairs : List ℕ) (i : ℕ) : Type 0 where
-  pub within : i ≤ n
-  pub room : n ≤ 1024
-  pub bytes : bound ≤ 128
-  pub from_room : length from ≡ 1024
-  pub to_room : length to ≡ 1024
+-- i of n roads are read, and their pairs are noted; behind what is lent for the others stand roads from 0 to 0
+pub record Listed (s : List ℕ) (n bound : ℕ) (from c : Cursor) (items : List Road) (pairs : List ℕ) (i end : ℕ) : Type 0 where
+  pub size : length items ≡ n
+  pub last : end ≡ n
   pub pairs_room : length pairs ≡ 512
-  pub noted : good line ≡ true → Noted pairs (earlier (roads_in line from to) i)
-  pub same : road_block s prior n bound ≡ rest n (road_step s bound) i (roads_in line from to)
+  pub noted : Noted pairs (earlier (roads_in top (items ++ drop n (replicate 1024 no_road))) i)
+  pub read : (xs : Numbers) → RoadsRead s n bound xs from c (items ++ drop n (replicate 1024 no_road)) i
 
-abbrev pub invariant-loop-i : goal.invariant-loop-i
-invariant-loop-i l = Read l.s l.n l.bound l.initial.line l.line l.from l.to l.pairs l.i
-
-abbrev pub decreases-loop-i : goal.decreases-loop-i
-decreases-loop-i l = l.n - l.i
+abbrev pub invariant-loop-road : goal.invariant-loop-road
+invariant-loop-road l = Listed l.s l.n l.bound l.initial.cursor l.cursor l.road-items l.pairs l.road-index l.road-index-end

@@ -1,22 +1,15 @@
--- The roads are added to blank tables, and then the places without one are seen to.
+-- The closure adds the pair that it is called with to one table, and turned round to the other.
 use native.Mathlib.Omega.{arith}
+use Rattle.std.proofs.Common.{rules}
+use Rattle.roadmap.proofs.Gains.{told_through, told_joins}
 use Rattle.roadmap.proofs.Paths.{blank_long, paths_made}
 use Rattle.roadmap.proofs.words.road_words.Goals as goal
 
-pub mark_roads-requires : goal.mark_roads-requires
-mark_roads-requires c =
-    let w = c.requires.0 in
-    (w.roads, blank_long c.requires.1, blank_long c.requires.2, λ i. omega (arith, w.from i, w.few), λ i. omega (arith, w.to i, w.few))
-
-pub park_all-requires : goal.park_all-requires
-park_all-requires c =
-    let k = c.mark_roads.auto in
-    (c.requires.0.few, omega (arith, k, blank_long c.requires.1), omega (arith, k, blank_long c.requires.2))
-
 pub returns : goal.returns
 returns c =
-    let long = blank_long c.requires.1 in
-    let long_back = blank_long c.requires.2 in
-    paths_made c.args.p c.requires.0 c.requires.1 c.requires.2 c.mark_roads.ensures.0 c.mark_roads.ensures.1
-    c.park_all.ensures.0 c.park_all.ensures.1
-    (omega (arith, c.mark_roads.auto, c.park_all.auto)) (omega (arith, c.mark_roads.auto, c.park_all.auto))
+    let p = c.args.p in
+    let w = c.requires.0 in
+    paths_made p w (omega (arith, blank_long c.requires.1)) (omega (arith, blank_long c.requires.2))
+    (told_joins p w
+    (told_through _ _ _ _ c.each_joined.ensures (λ f. f.0.ghost_name) (λ f. f.1.ghost_name) (λ f. f.0.now) (λ f. f.1.now) (λ f z g r. search rules)
+    c.requires.1 c.requires.2 (λ same. search rules) (λ same. search rules)))

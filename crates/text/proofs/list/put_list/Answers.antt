@@ -7,11 +7,11 @@ loop-n-init c = put_start _ _ _ c.requires.stands _ c.requires.count_in_bounds
 
 pub returns-in_default : goal.returns-in_default
 returns-in_default c =
-    absurd (put_there _ _ _ _ _ _ _ c.loop-n.invariant c.loop-n-test.true _ c.ender.ensures _ c.number_at-e.ensures c.in_default.is)
+    absurd (put_there _ _ _ _ _ _ _ c.loop-n.invariant c.loop-n-test.true _ c.ender.ensures _ c.number_at.ensures c.in_default.is)
 
 pub loop-n-preserved : goal.loop-n-preserved
 loop-n-preserved c =
-    put_next _ _ _ _ _ _ _ c.loop-n.invariant c.loop-n-test.true _ c.ender.ensures _ c.number_at-e.ensures _ _ c.in-Value.is
+    put_next _ _ _ _ _ _ _ c.loop-n.invariant c.loop-n-test.true _ c.ender.ensures _ c.number_at.ensures _ _ c.in-Some.is
 
 pub returns : goal.returns
 returns c = put_end _ _ _ _ _ _ _ c.loop-n.invariant c.loop-n-test.false

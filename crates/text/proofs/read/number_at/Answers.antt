@@ -7,40 +7,45 @@ use Prim.Native.Nat.{ℕ, ◌+◌, ◌-◌, ◌<◌}
 use native.Mathlib.Omega.{arith}
 use lib.ListN.{length, drop, get_or}
 use Rattle.text.specs.Scan.{is_digit, digit_count}
-use Rattle.text.proofs.Scans.{digit_range, none_past, none_here, value_here, digit_count_more, held_value, ends_text, ends_otherwise, not_canonical, number_read}
+use Rattle.text.proofs.Scans.{ascii_digit, none_past, none_here, value_here, digit_count_more, held_value, ends_text, ends_otherwise, not_canonical, number_read}
 use Rattle.text.proofs.read.number_at.Goals as goal
+use Rattle.text.proofs.read.number_at.Goals.{else-b-end-via-then-b-end+else-canonical, else-b-end-via-else-b-end}
 
 -- where the byte is no digit, the digits passed are all that stand there
 passed : (s : List ℕ) (at i : ℕ) → digit_count (drop at s) ≡ (i - at) + digit_count (drop i s) → i < length s → is_digit (get_or s i 0) ≡ false
     → digit_count (drop at s) ≡ i - at
 passed s at i count h other = omega (arith, count, none_here s i h other)
 
-pub returns-then-b-end : goal.returns-then-b-end
-returns-then-b-end c =
-    ends_otherwise c.args.s.now _ c.loop-i.i _ c.loop-i.invariant.from (passed c.args.s.now c.args.at c.loop-i.i c.loop-i.invariant.count c.loop-i-test.true (sym c.digit.ensures ∙ c.if-not-digit.true)) c.loop-i-test.true c.if-b-end.true
-
 pub returns-then-canonical : goal.returns-then-canonical
 returns-then-canonical c =
     let s = c.args.s.now in
+    let i = c.loop-i.i in
     let h = c.loop-i-test.true in
-    let v = value_here s c.loop-i.i h (sym c.digit.ensures ∙ c.if-not-digit.true) c.loop-i.v in
-    number_read s _ c.loop-i.i _ c.loop-i.invariant.from (passed c.args.s.now c.args.at c.loop-i.i c.loop-i.invariant.count c.loop-i-test.true (sym c.digit.ensures ∙ c.if-not-digit.true)) h c.if-b-end.false (sym c.canonical.ensures ∙ c.if-canonical.true) _
+    let other = sym (c.is_ascii_digit.ensures.value ∙ ascii_digit (get_or s i 0)) ∙ c.if-not-is_ascii_digit.true in
+    let v = value_here s i h other c.loop-i.v in
+    number_read s _ i _ c.loop-i.invariant.from (passed s c.args.at i c.loop-i.invariant.count h other) h c.if-b-end.true
+    (sym c.canonical.ensures ∙ c.if-canonical.true) _
     (omega (arith, c.loop-i.invariant.held, c.loop-i.invariant.small))
 
-pub returns-then-not-digit : goal.returns-then-not-digit
-returns-then-not-digit c =
-    not_canonical c.args.s.now _ c.loop-i.i _ c.loop-i.invariant.from (passed c.args.s.now c.args.at c.loop-i.i c.loop-i.invariant.count c.loop-i-test.true (sym c.digit.ensures ∙ c.if-not-digit.true)) c.loop-i-test.true c.if-b-end.false
-    (sym c.canonical.ensures ∙ c.if-canonical.false)
-
-pub append_digit-v-requires : goal.append_digit-v-requires
-append_digit-v-requires c = digit_range _ (sym c.digit.ensures ∙ c.if-not-digit.false)
+pub returns-then-not-is_ascii_digit : goal.returns-then-not-is_ascii_digit
+returns-then-not-is_ascii_digit c =
+    let s = c.args.s.now in
+    let i = c.loop-i.i in
+    let h = c.loop-i-test.true in
+    let other = sym (c.is_ascii_digit.ensures.value ∙ ascii_digit (get_or s i 0)) ∙ c.if-not-is_ascii_digit.true in
+    let count = passed s c.args.at i c.loop-i.invariant.count h other in
+    elim c.else-b-end.branch [
+      | else-b-end-via-then-b-end+else-canonical w ↦
+          not_canonical s _ i _ c.loop-i.invariant.from count h w.if-b-end.true (sym w.canonical.ensures ∙ w.if-canonical.false)
+      | else-b-end-via-else-b-end w ↦ ends_otherwise s _ i _ c.loop-i.invariant.from count h w.if-b-end.false
+    ]
 
 pub loop-i-preserved : goal.loop-i-preserved
 loop-i-preserved c =
     let l = c.loop-i in
     let s = c.args.s.now in
     let h = c.loop-i-test.true in
-    let d = sym c.digit.ensures ∙ c.if-not-digit.false in
+    let d = sym (c.is_ascii_digit.ensures.value ∙ ascii_digit (get_or s l.i 0)) ∙ c.if-not-is_ascii_digit.false in
     record {
       from = omega (arith, l.invariant.from);
       count = omega (arith, l.invariant.count, l.invariant.from, digit_count_more s l.i h d);

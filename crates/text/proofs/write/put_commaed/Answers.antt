@@ -1,6 +1,5 @@
--- `put_commaed` meets its contract. What is left to write at a turn are the numbers from `i` on, each behind a comma: a turn
+-- `put_commaed` meets its contract. What is left to write at a turn are the numbers from the turn's on, each behind a comma: a turn
 -- writes a comma and the first of them.
-use mathlib.Core.Path.{◌≡◌}
 use mathlib.Core.List.{List, [], ◌∷◌, ◌++◌}
 use Prim.Native.Nat.{ℕ, ◌+◌, ◌≤◌, ◌<◌}
 use native.Mathlib.Omega.{arith}
@@ -8,7 +7,7 @@ use lib.ListN.{length, drop, get_or, drop_of_length-le}
 use Rattle.text.specs.Decimal.{decimal}
 use Rattle.text.specs.Over.{Wrote, Left}
 use Rattle.text.specs.KeyLine.{commaed}
-use Rattle.text.proofs.Overs.{left_start, left_room, left_next, left_end}
+use Rattle.text.proofs.Overs.{left_room, left_next, left_end}
 use Rattle.text.proofs.KeyLines.{commaed_next}
 use Rattle.text.proofs.write.put_commaed.Goals as goal
 
@@ -28,38 +27,26 @@ module _ {b : List ℕ} {at : ℕ} {text out : List ℕ} {next : ℕ} (numbers :
       number_room : next₁ + length (decimal (get_or numbers i 0)) ≤ length out₁
       number_room = left_room (decimal (get_or numbers i 0)) _ from_number
 
-      turn : {x : ℕ} {out₂ : List ℕ} {next₂ : ℕ} → x ≡ get_or numbers i 0 → Wrote out₁ next₁ (decimal x) out₂ next₂
+      turn : {out₂ : List ℕ} {next₂ : ℕ} → Wrote out₁ next₁ (decimal (get_or numbers i 0)) out₂ next₂
           → Left b at text out₂ next₂ (commaed (drop (i + 1) numbers))
-      turn e number = left_next (decimal (get_or numbers i 0)) _ from_number (rw e at number)
+      turn number = left_next (decimal (get_or numbers i 0)) _ from_number number
 
   end : length numbers ≤ i → Left b at text out next (commaed (drop i numbers)) → Wrote b at text out next
   unfolding commaed
   end h l = left_end (rw (drop_of_length-le numbers h) at l)
 
-pub loop-i-init : goal.loop-i-init
-loop-i-init c =
-    let a = c.args in
-    (omega arith, left_start a.out.now a.at (commaed a.numbers.now) c.requires)
-
-pub put_byte-number-requires : goal.put_byte-number-requires
-put_byte-number-requires c =
-    comma_room c.args.numbers.now c.loop-i.i c.loop-i-test.true c.loop-i.invariant.1
+pub put_byte-next-requires : goal.put_byte-next-requires
+put_byte-next-requires c = comma_room c.args.numbers.now c.loop-number.number-index c.loop-number-test.true c.loop-number.invariant
 
 pub put_decimal-next-requires : goal.put_decimal-next-requires
 put_decimal-next-requires c =
-    rw c.wide.ensures
-    (number_room c.args.numbers.now c.loop-i.i c.loop-i-test.true c.loop-i.invariant.1 c.put_byte-number.ensures)
+    rw c.from.ensures
+    (number_room c.args.numbers.now c.loop-number.number-index c.loop-number-test.true c.loop-number.invariant c.put_byte-next.ensures)
 
-pub loop-i-preserved : goal.loop-i-preserved
-loop-i-preserved c = (
-  omega arith,
-  turn c.args.numbers.now c.loop-i.i c.loop-i-test.true c.loop-i.invariant.1 c.put_byte-number.ensures
-      c.wide.ensures
-      c.put_decimal-next.ensures,
-)
-
-pub shape_of-out : goal.shape_of-out
-shape_of-out c = c.loop-i.invariant.1.size
+pub loop-number-preserved : goal.loop-number-preserved
+loop-number-preserved c =
+    turn c.args.numbers.now c.loop-number.number-index c.loop-number-test.true c.loop-number.invariant c.put_byte-next.ensures
+    (rw c.from.ensures at c.put_decimal-next.ensures)
 
 pub returns : goal.returns
-returns c = end c.args.numbers.now c.loop-i.i c.loop-i-test.false c.loop-i.invariant.1
+returns c = end c.args.numbers.now c.loop-number.number-index c.loop-number-test.false c.loop-number.invariant
