@@ -67,8 +67,8 @@ fn line_with(s: &[u8], key: &[u8]) -> Option<usize>
 fn draft_at(s: &[u8], at: usize) -> Result<Draft, Fault>
     ensures { result ≡ drafted (draft_at s.now at) }
 {
-    let (stem, cursor) = list_line(s, Cursor { at }, b"runin=", 256)?;
-    let (cycle, _) = list_line(s, cursor, b"loop=", 256)?;
+    let (stem, cursor) = list_line(s, Ok(Cursor { at }), b"runin=", 256)?;
+    let (cycle, _) = list_line(s, Ok(cursor), b"loop=", 256)?;
     Ok(Draft { stem, cycle })
 }
 

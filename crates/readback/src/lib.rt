@@ -57,12 +57,12 @@ fn read_lines(s: &[u8]) -> Result<Draft, Fault>
     ensures { result ≡ drafted (draft_of s.now) }
 {
     let (number, cursor) = answer_line(s, top())?;
-    let (line, cursor) = line_of_one(s, cursor, b"line=", 0, 65536)?;
-    let (cost, cursor) = line_of_one(s, cursor, b"cost=", 0, 32000001)?;
-    let (kept, cursor) = line_of_one(s, cursor, b"kept=", 0, 256)?;
-    let (stem, cursor) = list_line(s, cursor, b"runin=", 128)?;
-    let (cycle, cursor) = list_line(s, cursor, b"loop=", 128)?;
-    finish(s, cursor)?;
+    let (line, cursor) = line_of_one(s, Ok(cursor), b"line=", 0, 65536)?;
+    let (cost, cursor) = line_of_one(s, Ok(cursor), b"cost=", 0, 32000001)?;
+    let (kept, cursor) = line_of_one(s, Ok(cursor), b"kept=", 0, 256)?;
+    let (stem, cursor) = list_line(s, Ok(cursor), b"runin=", 128)?;
+    let (cycle, cursor) = list_line(s, Ok(cursor), b"loop=", 128)?;
+    finish(s, Ok(cursor))?;
     let says = Record {
         number,
         line,

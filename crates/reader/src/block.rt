@@ -26,7 +26,7 @@ pub fn label_block(
     let mut cursor = from;
     let mut labels = [0; 128];
     for label in &mut labels[..n] {
-        let (x, next) = line_of_one(s, cursor, b"label=", 0, bound)?;
+        let (x, next) = line_of_one(s, Ok(cursor), b"label=", 0, bound)?;
         *label = x as u8;
         cursor = next;
     }
@@ -47,7 +47,7 @@ pub fn road_block(
     let mut roads = [Road { from: 0, to: 0 }; 1024];
     let mut pairs = [0; 512];
     for road in &mut roads[..n] {
-        let (xs, next) = road_line(s, cursor, b"road=", bound, &mut pairs)?;
+        let (xs, next) = road_line(s, Ok(cursor), b"road=", bound, &mut pairs)?;
         *road = Road {
             from: xs.first as u8,
             to: xs.second as u8,
@@ -84,7 +84,7 @@ pub fn move_block(
     let mut cursor = from;
     let mut moves = [no_move(); 64];
     for m in &mut moves[..n] {
-        let (xs, next) = move_line(s, cursor, b"move=", states, labels)?;
+        let (xs, next) = move_line(s, Ok(cursor), b"move=", states, labels)?;
         *m = Move {
             from: xs.first as u8,
             need: xs.second as u8,
@@ -123,9 +123,9 @@ pub fn automaton_block(
     requires { (states ≤ 16) × (labels ≤ 256) }
     ensures { (xs : Numbers) → let b = automaton_block s.now (Ok (xs, from)) states labels in result ≡ told b.line b.automaton }
 {
-    let (first, cursor) = line_of_one(s, from, b"first=", 0, states)?;
-    let (accept, cursor) = line_of_one(s, cursor, b"accept=", 0, power(states))?;
-    let (move_count, cursor) = line_of_one(s, cursor, b"moves=", 0, 65)?;
+    let (first, cursor) = line_of_one(s, Ok(from), b"first=", 0, states)?;
+    let (accept, cursor) = line_of_one(s, Ok(cursor), b"accept=", 0, power(states))?;
+    let (move_count, cursor) = line_of_one(s, Ok(cursor), b"moves=", 0, 65)?;
     let (moves, cursor) = move_block(s, cursor, move_count as usize, states, labels)?;
     let automaton = Automaton {
         states,
@@ -142,7 +142,7 @@ pub fn hard_block(s: &[u8], from: Cursor, labels: u32) -> Result<(Automaton, Cur
     requires { labels ≤ 256 }
     ensures { (xs : Numbers) → let b = hard_block s.now (Ok (xs, from)) labels in result ≡ told b.line b.automaton }
 {
-    let (states, cursor) = line_of_one(s, from, b"hard=", 1, 17)?;
+    let (states, cursor) = line_of_one(s, Ok(from), b"hard=", 1, 17)?;
     automaton_block(s, cursor, states, labels)
 }
 
@@ -151,8 +151,8 @@ pub fn soft_block(s: &[u8], from: Cursor, labels: u32) -> Result<((Automaton, u3
     requires { labels ≤ 256 }
     ensures { (xs : Numbers) → let b = soft_block s.now (Ok (xs, from)) labels in result ≡ told b.line (b.automaton, b.weight) }
 {
-    let (states, cursor) = line_of_one(s, from, b"soft=", 1, 9)?;
-    let (weight, cursor) = line_of_one(s, cursor, b"weight=", 0, 4000001)?;
+    let (states, cursor) = line_of_one(s, Ok(from), b"soft=", 1, 9)?;
+    let (weight, cursor) = line_of_one(s, Ok(cursor), b"weight=", 0, 4000001)?;
     let (automaton, cursor) = automaton_block(s, cursor, states, labels)?;
     Ok(((automaton, weight), cursor))
 }

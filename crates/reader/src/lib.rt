@@ -30,9 +30,9 @@ fn read_lines(s: &[u8]) -> Result<Plan, Fault>
     } = map;
     let bound = label_count(marks);
     let (hard, cursor) = hard_block(s, cursor, bound)?;
-    let (rules, cursor) = line_of_one(s, cursor, b"rules=", 0, 9)?;
+    let (rules, cursor) = line_of_one(s, Ok(cursor), b"rules=", 0, 9)?;
     let ((soft, weights), cursor) = soft_blocks(s, cursor, rules as usize, bound)?;
-    finish(s, cursor)?;
+    finish(s, Ok(cursor))?;
     Ok(Plan {
         marks,
         places,

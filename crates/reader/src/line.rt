@@ -1,6 +1,7 @@
 //! Lines of a plan file that hold more than one number.
 ghost use Rattle.std.specs.Prelude.{◌≡◌, ◌≤◌, length};
 ghost use Rattle.reader.specs.Pairs.{noted_of};
+ghost use Rattle.text.specs.Line.{after};
 ghost use Rattle.reader.specs.Line.{road_fits, road_from, two_numbers, move_fits, move_from, five_numbers, RoadRead, MoveRead};
 
 use crate::pairs::{note, noted};
@@ -23,23 +24,31 @@ fn two_numbers(s: &[u8], from: usize, key: &[u8]) -> Option<(Numbers, usize)>
     Some((pair(x, y), at))
 }
 
-// A line `key=a,b`, both below `bound` and not a pair that is noted. If it has no fault, its pair is noted.
-pub fn road_line(s: &[u8], from: Cursor, key: &[u8], bound: u32, pairs: &mut [u32]) -> Line
+// A line `key=a,b`, both below `bound` and not a pair that is noted, behind the line that ended with `prior`. If it has no fault, its
+// pair is noted.
+pub fn road_line(
+    s: &[u8],
+    prior: Result<Cursor, Fault>,
+    key: &[u8],
+    bound: u32,
+    pairs: &mut [u32],
+) -> Line
     requires { (bound ≤ 128) × (length pairs.old ≡ 512) }
-    ensures { RoadRead (road_from s.now from.at key.now bound (noted_of pairs.old)) bound pairs.old result pairs.new }
+    ensures { RoadRead (after prior (λ at. road_from s.now at key.now bound (noted_of pairs.old))) bound pairs.old result pairs.new }
 {
-    let Some((xs, at)) = two_numbers(s, from.at, key) else {
-        return Err(bad_form(s, from.at));
+    let from = prior?.at;
+    let Some((xs, at)) = two_numbers(s, from, key) else {
+        return Err(bad_form(s, from));
     };
     if !road_fits(xs, bound) {
-        return Err(Fault::Range(line_at(s, from.at)));
+        return Err(Fault::Range(line_at(s, from)));
     }
     let x = xs.first as usize;
     let y = xs.second as usize;
     let again = noted(pairs, x, y);
     note(pairs, x, y);
     if again {
-        Err(Fault::Doubled(line_at(s, from.at)))
+        Err(Fault::Doubled(line_at(s, from)))
     } else {
         Ok((xs, Cursor { at }))
     }
@@ -84,11 +93,19 @@ fn five_numbers(s: &[u8], from: usize, key: &[u8]) -> Option<(Numbers, usize)>
     Some((xs, at))
 }
 
-// A line `key=q,need,bar,r` or `key=q,need,bar,any,r`: q and r are below `states`, the others below `labels`.
-pub fn move_line(s: &[u8], from: Cursor, key: &[u8], states: u32, labels: u32) -> Line
+// A line `key=q,need,bar,r` or `key=q,need,bar,any,r`, behind the line that ended with `prior`: q and r are below `states`, the others
+// below `labels`.
+pub fn move_line(
+    s: &[u8],
+    prior: Result<Cursor, Fault>,
+    key: &[u8],
+    states: u32,
+    labels: u32,
+) -> Line
     requires { (states ≤ 4000000000) × (labels ≤ 4000000000) }
-    ensures { MoveRead (move_from s.now from.at key.now states labels) states labels result }
+    ensures { MoveRead (after prior (λ at. move_from s.now at key.now states labels)) states labels result }
 {
+    let from = prior?;
     let Some((xs, at)) = five_numbers(s, from.at, key) else {
         return Err(bad_form(s, from.at));
     };

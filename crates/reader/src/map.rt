@@ -23,12 +23,12 @@ pub fn read_map(s: &[u8]) -> Result<(Map, Cursor), Fault>
     ensures value { let m = map_of s.now in result ≡ told m.line m.map }
     ensures marks { IfOk result (λ x. x.0.marks ≤ 8) }
 {
-    let (_, cursor) = line_of_one(s, top(), b"tour=", 1, 2)?;
-    let (marks, cursor) = line_of_one(s, cursor, b"marks=", 0, 9)?;
-    let (places, cursor) = line_of_one(s, cursor, b"places=", 1, 129)?;
+    let (_, cursor) = line_of_one(s, Ok(top()), b"tour=", 1, 2)?;
+    let (marks, cursor) = line_of_one(s, Ok(cursor), b"marks=", 0, 9)?;
+    let (places, cursor) = line_of_one(s, Ok(cursor), b"places=", 1, 129)?;
     let (labels, cursor) = label_block(s, cursor, places as usize, label_count(marks))?;
-    let (start, cursor) = line_of_one(s, cursor, b"start=", 0, places)?;
-    let (road_count, cursor) = line_of_one(s, cursor, b"roads=", 0, 1025)?;
+    let (start, cursor) = line_of_one(s, Ok(cursor), b"start=", 0, places)?;
+    let (road_count, cursor) = line_of_one(s, Ok(cursor), b"roads=", 0, 1025)?;
     let (roads, cursor) = road_block(s, cursor, road_count as usize, places)?;
     let map = Map {
         marks,

@@ -3,7 +3,9 @@
 -- line itself is a chain of steps: its key, then number after number, each behind the one before (`next_number`); once one has a bad
 -- form, so have those behind it. The line is judged by its last number: its form, and then whether its numbers are in their ranges.
 --   Line                             == the numbers of a line with the next cursor, or its fault
---   behind prior read                == the line behind `prior`, by its index; the fault of `prior` where it has one
+--   end_of l                          == the cursor behind the line l, or its fault
+--   after prior read                 == what is read from the cursor `prior` on, by its index; the fault that stands in its place where there is one
+--   behind prior read                == so for the line behind the line `prior`
 --   pair x y                         == the numbers x and y
 --   bad_form s at                     == the form fault of the line at index `at`
 --   judged s at next fit xs          == the line at index `at`, of good form: xs, what was read of it, with the next cursor, or its range fault
@@ -30,9 +32,16 @@ use Rattle.text.specs.declared.line.Cursor.{Cursor}
 abbrev pub Line : Type 0
 Line = Result (Numbers × Cursor) Fault
 
+abbrev pub end_of : Line → Result Cursor Fault
+end_of (Err f) = Err f
+end_of (Ok (xs, c)) = Ok c
+
+abbrev pub after : {T : Type 0} → Result Cursor Fault → (ℕ → Result T Fault) → Result T Fault
+after (Err f) read = Err f
+after (Ok c) read = read c.at
+
 abbrev pub behind : Line → (ℕ → Line) → Line
-behind (Err f) read = Err f
-behind (Ok (xs, c)) read = read c.at
+behind prior read = after (end_of prior) read
 
 abbrev pub pair : ℕ → ℕ → Numbers
 pair x y = record { first = x; second = y; third = 0; fourth = 0; fifth = 0 }

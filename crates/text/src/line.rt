@@ -1,7 +1,7 @@
-//! A line of a text, read: its numbers with the next cursor, or its fault. A line is read from a cursor, so that `?` hands on the
-//! first fault of a sequence of lines.
+//! A line of a text, read: its numbers with the next cursor, or its fault. A line is read behind the line before, of which it is
+//! told the cursor or the fault: that fault is handed on, so that the first of a sequence of lines decides.
 ghost use Rattle.std.specs.Prelude.{◌≡◌, ◌≤◌};
-ghost use Rattle.text.specs.Line.{pair, bad_form, judged, within, one_from, OneRead, start, ended};
+ghost use Rattle.text.specs.Line.{pair, bad_form, judged, within, after, one_from, OneRead, start, ended};
 
 use crate::fault::Fault;
 use crate::read::{line_at, number_behind};
@@ -68,17 +68,18 @@ fn within(x: u32, low: u32, bound: u32) -> bool
     low <= x && x < bound
 }
 
-// A line `key=a` with a from `low` to below `bound`: the number a, and the next cursor.
+// A line `key=a` with a from `low` to below `bound`, behind the line that ended with `prior`: the number a, and the next cursor.
 pub fn line_of_one(
     s: &[u8],
-    from: Cursor,
+    prior: Result<Cursor, Fault>,
     key: &[u8],
     low: u32,
     bound: u32,
 ) -> Result<(u32, Cursor), Fault>
     requires { bound ≤ 4000000000 }
-    ensures { OneRead (one_from s.now from.at key.now low bound) bound result }
+    ensures { OneRead (after prior (λ at. one_from s.now at key.now low bound)) bound result }
 {
+    let from = prior?;
     let Some((x, at)) = number_behind(s, from.at, key, b'\n') else {
         return Err(bad_form(s, from.at));
     };
@@ -92,10 +93,11 @@ pub fn top() -> Cursor
     Cursor { at: 0 }
 }
 
-// Whether the text ends here, as a line that is still there has a bad form.
-pub fn finish(s: &[u8], end: Cursor) -> Result<(), Fault>
-    ensures { result ≡ ended s.now end.at }
+// Whether the text ends behind the line that ended with `last`, as a line that is still there has a bad form.
+pub fn finish(s: &[u8], last: Result<Cursor, Fault>) -> Result<(), Fault>
+    ensures { result ≡ after last (ended s.now) }
 {
+    let end = last?;
     if end.at < s.len() {
         return Err(bad_form(s, end.at));
     }

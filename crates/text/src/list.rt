@@ -1,6 +1,6 @@
 //! Lists of numbers in a text, joined by commas: a line that holds one is read, and its numbers are written out as bytes.
 ghost use Rattle.std.specs.Prelude.{◌≡◌, cond, ◌++◌, ◌+◌, ◌≤◌, ◌<◌, ltb, length, drop};
-ghost use Rattle.text.specs.Line.{told};
+ghost use Rattle.text.specs.Line.{after, told};
 ghost use Rattle.text.specs.List.{entries, items_at, list_from, places_of};
 ghost use Rattle.text.specs.Runs.{Stands, Ran, listing};
 
@@ -74,11 +74,17 @@ fn list_at(s: &[u8], at: usize, bound: u32) -> Option<Run>
     entries_at(s, at, bound)
 }
 
-// A line `key=a,b,..`, every number below `bound`: its list, and the next cursor.
-pub fn list_line(s: &[u8], from: Cursor, key: &[u8], bound: u32) -> Result<(Span, Cursor), Fault>
+// A line `key=a,b,..`, every number below `bound`, behind the line that ended with `prior`: its list, and the next cursor.
+pub fn list_line(
+    s: &[u8],
+    prior: Result<Cursor, Fault>,
+    key: &[u8],
+    bound: u32,
+) -> Result<(Span, Cursor), Fault>
     requires { bound ≤ 4000000000 }
-    ensures { let x = list_from s.now from.at key.now bound in result ≡ told x.line x.list }
+    ensures { result ≡ after prior (λ at. let x = list_from s.now at key.now bound in told x.line x.list) }
 {
+    let from = prior?;
     let Some(at) = key_at(s, from.at, key) else {
         return Err(bad_form(s, from.at));
     };

@@ -1,4 +1,4 @@
--- `road_line` meets its contract: a pair that is noted twice changes nothing.
+-- `road_line` meets its contract: behind a line without a fault, a pair that is noted twice changes nothing.
 use mathlib.Core.Path.{◌≡◌, refl, sym, ◌∙◌}
 use mathlib.Core.Bool.{true}
 use Prim.Native.Nat.{ℕ, ◌≤◌, ◌<◌}
@@ -20,7 +20,8 @@ returns-then-again c =
     let fits = sym c.road_fits.ensures ∙ c.if-not-road_fits.false in
     let low = placed c.in-Some.xs a.bound c.requires.0 fits in
     let again = sym c.noted-again.ensures ∙ c.if-again.true in
-    road_faulty _ _ _ _ (noted_of a.pairs.now) _ _ _ _ refl
+    rw c.in_ok-from.was
+    (road_faulty _ _ _ _ (noted_of a.pairs.now) _ _ _ _ refl
     (road_doubled _ _ _ _ _ (noted_of a.pairs.now) _ c.line_at-then-again.ensures fits again
     ∙ road_some _ _ _ _ (noted_of a.pairs.now) _ _ (sym c.two_numbers.ensures ∙ c.in-Some.is) (omega (arith, c.requires.0)))
-    (c.note.ensures ∙ noting_again _ _ _ c.requires.1 low.0 low.1 again)
+    (c.note.ensures ∙ noting_again _ _ _ c.requires.1 low.0 low.1 again))
