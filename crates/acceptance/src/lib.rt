@@ -20,7 +20,7 @@ pub fn accepts(a: Automaton, labels: &[u8; 128], places: usize, stem: &[u8], cyc
     ensures { Judged a labels.now stem.now cycle.now result }
 {
     let mut steps = [0u64; 4096];
-    table::fill(a, labels, places, &mut steps);
+    table::fill(&a, labels, places, &mut steps);
     let rule = Rule {
         steps: &steps,
         states: a.states as usize,

@@ -37,9 +37,9 @@ impl From<Fault> for Lack {
 
 // Where the places of the two lines stand.
 #[derive(Clone, Copy)]
-struct Draft {
-    stem: Span,
-    cycle: Span,
+pub struct Draft {
+    pub stem: Span,
+    pub cycle: Span,
 }
 
 // Whether a line begins at index `at`, and begins with the key.

@@ -30,10 +30,10 @@ pub struct Record {
 
 // What the lines of a whole text make: the record, and where the places stand.
 #[derive(Clone, Copy)]
-struct Draft {
-    says: Record,
-    stem: Span,
-    cycle: Span,
+pub struct Draft {
+    pub says: Record,
+    pub stem: Span,
+    pub cycle: Span,
 }
 
 // Whether this is the number of an answer that plantour gives.

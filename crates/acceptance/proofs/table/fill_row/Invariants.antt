@@ -3,4 +3,4 @@ use Rattle.acceptance.specs.Table.{Filled}
 use Rattle.acceptance.proofs.table.fill_row.Given as goal
 
 abbrev pub invariant-loop-q : goal.invariant-loop-q
-invariant-loop-q l = Filled (placed l.fn.a l.labels) l.fn.a.states l.v l.q l.steps
+invariant-loop-q l = Filled (placed l.a l.labels) l.a.states l.v l.q l.steps
