@@ -1,14 +1,17 @@
 -- The state laws of the count of line ends, and that a line's number is at least 1 and at most one above the text's length.
-use mathlib.Core.Path.{◌≡◌, refl}
+use mathlib.Core.Path.{◌≡◌, refl, ap, ◌∙◌}
 use mathlib.Core.List.{List, [], ◌∷◌}
 use mathlib.Core.Bool.{Bool, true, false, cond}
-use Prim.Native.Nat.{ℕ, suc, ◌+◌, ◌-◌, ◌≤◌, ◌<◌}
+use Prim.Native.Nat.{ℕ, suc, ◌+◌, ◌-◌, ◌≤◌, ◌<◌, min}
+use native.Mathlib.Decide.{dec_lt}
 use native.Mathlib.Omega.{arith}
 use native.Mathlib.Numerals.{add-one}
 use lib.ListN.{length, take, drop, get_or, drop_of_length-le, length-take}
 use lib.Dec.{eqb}
+use borrow.Author.Tests.{eq-eqb, ne_eqb}
 use lib.Seq.{drop-cons, take-nil}
 use Rattle.std.specs.List.{count_by}
+use Rattle.std.proofs.lemmas.List.{get_or-take}
 use Rattle.std.proofs.lemmas.List.Recursion.{is_count_by}
 use Rattle.text.specs.Scan.{newline, newlines, line_at}
 
@@ -42,6 +45,31 @@ module _ (s : List ℕ) (at i : ℕ) where
   pub newlines_done : at ≤ i → newlines (take (at - i) (drop i s)) ≡ 0
   unfolding newlines
   newlines_done h = let e : at - i ≡ 0 = omega arith in rw e
+
+-- the line ends before index `at`, entry by entry, of which there are m: on by one that is a line end, and by another; none is left at the end
+module _ (s : List ℕ) (at m : ℕ) (many : m ≡ min at (length s)) where
+  newlines_on : (i : ℕ) → i < length (take m s)
+      → newlines (take (at - i) (drop i s)) ≡ newline (get_or (take m s) i 0) + newlines (take (at - (i + 1)) (drop (i + 1) s))
+  newlines_on i h =
+      let inside : i < m = omega (arith, length-take m s) in
+      rw (get_or-take m s i 0 inside) (newlines_more s at i (omega arith) (omega arith))
+
+  pub newlines_end : (i : ℕ) → i < length (take m s) → get_or (take m s) i 0 ≡ 10
+      → newlines (take (at - i) (drop i s)) ≡ 1 + newlines (take (at - (i + 1)) (drop (i + 1) s))
+  newlines_end i h e = newlines_on i h ∙ ap (λ t. cond t 1 0 + newlines (take (at - (i + 1)) (drop (i + 1) s))) (eq-eqb _ _ e)
+
+  pub newlines_else : (i : ℕ) → i < length (take m s) → (get_or (take m s) i 0 ≡ 10 → ⊥)
+      → newlines (take (at - i) (drop i s)) ≡ newlines (take (at - (i + 1)) (drop (i + 1) s))
+  newlines_else i h d =
+      let none : newline (get_or (take m s) i 0) ≡ 0 = ap (λ t. cond t 1 0) (ne_eqb _ _ d) in
+      omega (arith, newlines_on i h, none)
+
+  pub newlines_all : (i : ℕ) → length (take m s) ≤ i → newlines (take (at - i) (drop i s)) ≡ 0
+  newlines_all i h = by (dec_lt i at)
+    where
+      by : Dec (i < at) → newlines (take (at - i) (drop i s)) ≡ 0
+      by (yes l) = newlines_past s at i (omega (arith, length-take m s))
+      by (no d) = newlines_done s at i (omega arith)
 
 newline_most : (b : ℕ) → newline b ≤ 1
 newline_most b = by_test (eqb b 10)
