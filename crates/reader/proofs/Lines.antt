@@ -152,19 +152,19 @@ module _ (s : List ℕ) (at : ℕ) (key : List ℕ) where
   numbers_in None = pair 0 0
   numbers_in (Some (xs, i)) = xs
 
+  -- all of them are there only if the last is
+  all_none : (b : Number) (xs : Numbers) → all_of b xs ≡ None → b ≡ None
+  all_none None xs e = refl
+  all_none (Some (w, i)) xs e = let z : ◌≡◌ {A = ℕ} 0 1 = cc in absurd (omega arith)
+
   -- the number in front of the last of a road line
   abbrev x : ℕ
   x = value_of (first_number s (key_at s at key) 44)
 
   module _ (bound : ℕ) (again : Numbers → Bool) where
     pub road_none : two_numbers s at key ≡ None → Err (bad_form s at) ≡ road_from s at key bound again
-    road_none = by (next_number s (first_number s (key_at s at key) 44) 10)
-      where
-        by : (b : Number) → all_of b (pair x (value_of b)) ≡ None
-            → ◌≡◌ {A = Line} (Err (bad_form s at))
-            (once s at (again (pair x (value_of b))) (closed s at b (road_fits (pair x (value_of b)) bound) (pair x (value_of b))))
-        by None e = refl
-        by (Some (w, i)) e = let z : ◌≡◌ {A = ℕ} 0 1 = cc in absurd (omega arith)
+    unfolding road_line
+    road_none e = road_bad s (Ok (pair 0 0, record { at = at })) key _ _ refl bound again (all_none _ _ e)
 
     pub road_some : (ys : Numbers) (n : ℕ) → two_numbers s at key ≡ Some (ys, n) → bound ≤ 4000000000
         → road s at n (again ys) (road_fits ys bound) ys ≡ road_from s at key bound again
@@ -185,10 +185,6 @@ module _ (s : List ℕ) (at : ℕ) (key : List ℕ) where
       abbrev line_by : Number → Line
       line_by b = closed s at b (move_fits (numbers x y z u (value_of b)) q labels) (numbers x y z u (value_of b))
 
-      pub by_none : (b : Number) → all_of b (numbers x y z u (value_of b)) ≡ None → Err (bad_form s at) ≡ line_by b
-      by_none None e = refl
-      by_none (Some (w, i)) e = let z : ◌≡◌ {A = ℕ} 0 1 = cc in absurd (omega arith)
-
       pub by_some : (b : Number) (ys : Numbers) (n : ℕ) → all_of b (numbers x y z u (value_of b)) ≡ Some (ys, n) → q ≤ 4000000000 → labels ≤ 4000000000
           → judged s at n (move_fits ys q labels) ys ≡ line_by b
       by_some None ys n e h k = let z : ◌≡◌ {A = ℕ} 0 1 = cc in absurd (omega arith)
@@ -198,7 +194,8 @@ module _ (s : List ℕ) (at : ℕ) (key : List ℕ) where
           rw (← p, ← o) (move_held s at i x y z u w _ _ _ _ _ q labels refl refl refl refl refl h k)
 
     pub move_none : five_numbers s at key ≡ None → Err (bad_form s at) ≡ move_from s at key q labels
-    move_none e = by_none _ _ _ _ _ e
+    unfolding move_line
+    move_none e = move_bad s (Ok (pair 0 0, record { at = at })) key _ _ refl q labels (all_none _ _ e)
 
     pub move_good : (ys : Numbers) (n : ℕ) → five_numbers s at key ≡ Some (ys, n) → q ≤ 4000000000 → labels ≤ 4000000000
         → judged s at n (move_fits ys q labels) ys ≡ move_from s at key q labels
