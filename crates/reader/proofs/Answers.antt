@@ -1,6 +1,7 @@
 -- What a plan file is answered with, case by case.
---   too_long, short_enough      == the answer, by what its lines are read as
---   faulty, faultless           == so it is, by the draft of its lines
+--   too_long                    == the answer to a text that is too long
+--   faulty, faultless           == to one that is not, by the draft of its lines
+--   short_enough                == and by what its lines are read as
 --   Turned x, read_turned       == why a plan file is turned away: it is too long, or a line of it has a fault, no later one than may follow
 --                                  60,000 line ends
 --   Early n, read_early         == so the number is at most 3, or 10, and none of 4 to 9
@@ -46,10 +47,23 @@ module _ (s : List ℕ) where
   answer_made (Err f) p = refl
   answer_made (Ok (xs, c)) p = refl
 
+  -- the answer, by the draft of its lines
+  module _ (h : length s ≤ 60000) (d : Draft) (e : d ≡ draft_of s) where
+    pub faulty : (f : Fault) → d.line ≡ Err f → Err (cause.Line f) ≡ read_plan s
+    unfolding read_plan
+    faulty f k = rw (le-ltb 60000 (length s) h, ← e, k) (answer_made (Err f) d.plan)
+
+    pub faultless : (xs : Numbers) (c : Cursor) → d.line ≡ Ok (xs, c) → Ok d.plan ≡ read_plan s
+    unfolding read_plan
+    faultless xs c k = rw (le-ltb 60000 (length s) h, ← e, k) (answer_made (Ok (xs, c)) d.plan)
+
   module _ (h : length s ≤ 60000) (r : Result Plan Fault) (e : r ≡ lines_read s) where
     answer_is : refused r ≡ read_plan s
-    unfolding read_plan
-    answer_is = rw (le-ltb 60000 (length s) h, e) (answer_made (draft_of s).line (draft_of s).plan)
+    answer_is = rw e (by (draft_of s).line refl)
+      where
+        by : (l : Line) → (draft_of s).line ≡ l → refused (made l (draft_of s).plan) ≡ read_plan s
+        by (Err f) k = faulty h (draft_of s) refl f k
+        by (Ok (xs, c)) k = faultless h (draft_of s) refl xs c k
 
     -- a is r with its fault as a refusal
     pub short_enough : (a : Result Plan Refusal) → MatchResult r (λ p. a ≡ Ok p) (λ f. IsErrAnd a (λ x. x ≡ cause.Line f)) → a ≡ read_plan s
@@ -58,16 +72,6 @@ module _ (s : List ℕ) where
         by : (r : Result Plan Fault) (a : Result Plan Refusal) → MatchResult r (λ p. a ≡ Ok p) (λ f. IsErrAnd a (λ x. x ≡ cause.Line f)) → a ≡ refused r
         by (Ok p) a h = h
         by (Err f) a h = let x = err_from_is_err_and a h in rw (x.1, x.2)
-
-  -- so it is, by the draft of its lines
-  module _ (h : length s ≤ 60000) (d : Draft) (e : d ≡ draft_of s) where
-    pub faulty : (f : Fault) → d.line ≡ Err f → Err (cause.Line f) ≡ read_plan s
-    unfolding read_plan answer
-    faulty f k = rw (le-ltb 60000 (length s) h, ← e, k)
-
-    pub faultless : (xs : Numbers) (c : Cursor) → d.line ≡ Ok (xs, c) → Ok d.plan ≡ read_plan s
-    unfolding read_plan answer
-    faultless xs c k = rw (le-ltb 60000 (length s) h, ← e, k)
 
 pub data Turned (x : Refusal) : Type 0 where
   long : x ≡ cause.PlanTooLong → Turned x

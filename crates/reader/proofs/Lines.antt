@@ -1,6 +1,7 @@
 -- What the lines of a plan file that hold more than one number come to; the laws of any line stand in `text/proofs/Lines`.
 --   road_held, move_held    == a line of good form is judged by held values as by the exact ones
 --   two_none, two_one, two_both, five_none, .. == the numbers of a line, one behind the other
+--   any_told, last_held     == behind four numbers, the fourth is any, and the last is the one behind it, each held
 --   road_bad, move_bad      == each kind of line has a bad form where its last number has
 --   road_good               == a road line of good form is judged by its held values
 --   road_none, road_some, move_none, move_good == what each kind of line is, by its numbers as the code knows them
@@ -25,7 +26,7 @@ use Rattle.text.specs.declared.fault.Fault.{Fault}
 use Rattle.text.specs.declared.fault.Fault.TheVariants.{Range, Doubled}
 use Rattle.text.specs.declared.line.Numbers.{Numbers}
 use Rattle.text.specs.declared.line.Cursor.{Cursor}
-use Rattle.text.proofs.Held.{Told}
+use Rattle.text.proofs.Held.{Held, Told, held_told, held_bad, told_held, bad_held, else_held, either_held}
 use Rattle.text.proofs.Lines.{same_below, judged_same, before, here, Led, closed_led, low}
 use Rattle.reader.specs.Line.{road_fits, once, road_from, road_line, move_fits, move_from, move_line, all_of, two_numbers, five_numbers, noting_line, RoadRead, MoveRead}
 
@@ -108,11 +109,33 @@ module _ (s : List ℕ) (at : ℕ) (key : List ℕ) where
           five_three e = rw (a.is, b.is, d.is, no, e)
 
           module _ (u m : ℕ) (g : Told (number_at s k 44) u m) where
+            abbrev fourth : Number
+            fourth = next_number s (number_at s j 44) 10
+
+            abbrev extra : Number
+            extra = else_number s fourth (number_at s j 44) 44
+
+            abbrev final : Number
+            final = either fourth (next_number s extra 10)
+
+            no_fourth : Held fourth None
+            no_fourth = bad_held fourth (rw d.is no)
+
+            -- the number behind the third is any, and the one behind it is the last
+            any_told : Told extra u m
+            any_told =
+                held_told _ _ (else_held s 44 fourth None _ _ (Some (u, m)) no_fourth (told_held _ z k d) (told_held _ u m g).same).same u m refl
+
+            last_held : (r : Number) → Held (number_at s m 10) r → Held final r
+            last_held r h = either_held fourth None (next_number s extra 10) r r no_fourth (rw any_told.is h) refl
+
             pub five_any : number_at s m 10 ≡ None → None ≡ five_numbers s at key
-            five_any e = rw (a.is, b.is, d.is, no, g.is, e)
+            five_any e = let l = held_bad final None (last_held None (bad_held _ e)).same refl in rw (a.is, b.is, l)
 
             pub five_all : (o n : ℕ) → Told (number_at s m 10) o n → Some (numbers x y z u o, n) ≡ five_numbers s at key
-            five_all o n e = rw (a.is, b.is, d.is, no, g.is, e.is, a.held, b.held, d.held, g.held, e.held)
+            five_all o n e =
+                let l = held_told final _ (last_held (Some (o, n)) (told_held _ o n e)).same o n refl in
+                rw (a.is, b.is, l.is, a.held, b.held, d.held, any_told.held, l.held)
 
 -- a line that stands behind one without a fault
 module _ (s : List ℕ) (l : Line) (key : List ℕ) (xs : Numbers) (c : Cursor) (p : l ≡ Ok (xs, c)) where
@@ -152,19 +175,19 @@ module _ (s : List ℕ) (at : ℕ) (key : List ℕ) where
   numbers_in None = pair 0 0
   numbers_in (Some (xs, i)) = xs
 
+  -- all of them are there only if the last is
+  all_none : (b : Number) (xs : Numbers) → all_of b xs ≡ None → b ≡ None
+  all_none None xs e = refl
+  all_none (Some (w, i)) xs e = let z : ◌≡◌ {A = ℕ} 0 1 = cc in absurd (omega arith)
+
   -- the number in front of the last of a road line
   abbrev x : ℕ
   x = value_of (first_number s (key_at s at key) 44)
 
   module _ (bound : ℕ) (again : Numbers → Bool) where
     pub road_none : two_numbers s at key ≡ None → Err (bad_form s at) ≡ road_from s at key bound again
-    road_none = by (next_number s (first_number s (key_at s at key) 44) 10)
-      where
-        by : (b : Number) → all_of b (pair x (value_of b)) ≡ None
-            → ◌≡◌ {A = Line} (Err (bad_form s at))
-            (once s at (again (pair x (value_of b))) (closed s at b (road_fits (pair x (value_of b)) bound) (pair x (value_of b))))
-        by None e = refl
-        by (Some (w, i)) e = let z : ◌≡◌ {A = ℕ} 0 1 = cc in absurd (omega arith)
+    unfolding road_line
+    road_none e = road_bad s (Ok (pair 0 0, record { at = at })) key _ _ refl bound again (all_none _ _ e)
 
     pub road_some : (ys : Numbers) (n : ℕ) → two_numbers s at key ≡ Some (ys, n) → bound ≤ 4000000000
         → road s at n (again ys) (road_fits ys bound) ys ≡ road_from s at key bound again
@@ -185,10 +208,6 @@ module _ (s : List ℕ) (at : ℕ) (key : List ℕ) where
       abbrev line_by : Number → Line
       line_by b = closed s at b (move_fits (numbers x y z u (value_of b)) q labels) (numbers x y z u (value_of b))
 
-      pub by_none : (b : Number) → all_of b (numbers x y z u (value_of b)) ≡ None → Err (bad_form s at) ≡ line_by b
-      by_none None e = refl
-      by_none (Some (w, i)) e = let z : ◌≡◌ {A = ℕ} 0 1 = cc in absurd (omega arith)
-
       pub by_some : (b : Number) (ys : Numbers) (n : ℕ) → all_of b (numbers x y z u (value_of b)) ≡ Some (ys, n) → q ≤ 4000000000 → labels ≤ 4000000000
           → judged s at n (move_fits ys q labels) ys ≡ line_by b
       by_some None ys n e h k = let z : ◌≡◌ {A = ℕ} 0 1 = cc in absurd (omega arith)
@@ -198,7 +217,8 @@ module _ (s : List ℕ) (at : ℕ) (key : List ℕ) where
           rw (← p, ← o) (move_held s at i x y z u w _ _ _ _ _ q labels refl refl refl refl refl h k)
 
     pub move_none : five_numbers s at key ≡ None → Err (bad_form s at) ≡ move_from s at key q labels
-    move_none e = by_none _ _ _ _ _ e
+    unfolding move_line
+    move_none e = move_bad s (Ok (pair 0 0, record { at = at })) key _ _ refl q labels (all_none _ _ e)
 
     pub move_good : (ys : Numbers) (n : ℕ) → five_numbers s at key ≡ Some (ys, n) → q ≤ 4000000000 → labels ≤ 4000000000
         → judged s at n (move_fits ys q labels) ys ≡ move_from s at key q labels

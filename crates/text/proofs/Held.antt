@@ -3,6 +3,7 @@
 --   Told n x i             == the number n ends before index i, and x is its value, held
 --   index_of n             == the index behind a number, 0 of None
 --   held_told, held_bad    == what a held number says of the exact one
+--   told_held, bad_held    == and back
 --   else_held, either_held == the steps of a chain
 use mathlib.Core.Path.{◌≡◌, refl, sym, ap, ◌∙◌}
 use mathlib.Core.List.{List}
@@ -39,6 +40,15 @@ module _ (n m : Number) (h : m ≡ cap n) where
 
   pub held_bad : m ≡ None → n ≡ None
   held_bad e = cap_none n (sym h ∙ e)
+
+-- and back: a number that is told is held so
+pub told_held : (n : Number) (x i : ℕ) → Told n x i → Held n (Some (x, i))
+unfolding cap
+told_held n x i a = record { same = rw (a.is, a.held) }
+
+pub bad_held : (n : Number) → n ≡ None → Held n None
+unfolding cap
+bad_held n e = record { same = rw e }
 
 next_cap : (s : List ℕ) (n : Number) (e : ℕ) → next_number s (cap n) e ≡ next_number s n e
 unfolding cap

@@ -86,7 +86,8 @@ module _ (s : List ℕ) (at : ℕ) (key : List ℕ) where
   first = first_number s (key_at s at key) 10
 
   from_bad : (low bound : ℕ) → first ≡ None → Err (bad_form s at) ≡ one_from s at key low bound
-  from_bad low bound e = rw e
+  unfolding line_of_one
+  from_bad low bound e = one_bad s (Ok (pair 0 0, record { at = at })) key _ _ refl low bound e
 
   from_good : (low bound x n : ℕ) → bound ≤ 4000000000 → Told first x n
       → judged s at n (within x low bound) (pair x 0) ≡ one_from s at key low bound

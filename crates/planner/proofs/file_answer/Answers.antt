@@ -2,7 +2,7 @@
 use native.Mathlib.Omega.{arith}
 use Rattle.reader.proofs.Answers.{refused_early}
 use Rattle.reader.proofs.WellRead.{read_ok}
-use Rattle.promise.proofs.Verdicts.{refused_told}
+use Rattle.promise.proofs.Verdicts.{read_told, refused_told}
 use Rattle.planner.proofs.file_answer.Goals as goal
 
 pub plan_answer-requires : goal.plan_answer-requires
@@ -10,6 +10,10 @@ plan_answer-requires c = read_ok c.args.plan.now _ c.read_plan.ensures c.in-Ok.p
 
 pub refusal_answer-requires : goal.refusal_answer-requires
 refusal_answer-requires c = omega (arith, refused_early c.args.plan.now _ c.read_plan.ensures c.in-Err.x c.in-Err.is)
+
+pub returns-in-Ok : goal.returns-in-Ok
+returns-in-Ok c =
+    let a = c.args in read_told a.plan.now _ c.read_plan.ensures a.runin.now a.cycle.now _ _ _ c.in-Ok.p c.in-Ok.is c.plan_answer.ensures
 
 pub returns-in-Err : goal.returns-in-Err
 returns-in-Err c =
