@@ -5,6 +5,7 @@
 --   road_bad, move_bad      == each kind of line has a bad form where its last number has
 --   road_good               == a road line of good form is judged by its held values
 --   road_none, road_some, move_none, move_good == what each kind of line is, by its numbers as the code knows them
+--   by_none, by_some        == and of a move line for any numbers in front of its last
 --   road_doubled, road_passed, road_ranged == the three ends of a road line of good form
 --   fits_both               == where the numbers of a road line fit, both are below the bound
 --   byte                    == a number below a bound of at most 256 fits a byte
@@ -207,6 +208,9 @@ module _ (s : List ℕ) (at : ℕ) (key : List ℕ) where
     module _ (x y z u : ℕ) where
       abbrev line_by : Number → Line
       line_by b = closed s at b (move_fits (numbers x y z u (value_of b)) q labels) (numbers x y z u (value_of b))
+
+      pub by_none : (b : Number) → all_of b (numbers x y z u (value_of b)) ≡ None → Err (bad_form s at) ≡ line_by b
+      by_none b e = rw (all_none b _ e)
 
       pub by_some : (b : Number) (ys : Numbers) (n : ℕ) → all_of b (numbers x y z u (value_of b)) ≡ Some (ys, n) → q ≤ 4000000000 → labels ≤ 4000000000
           → judged s at n (move_fits ys q labels) ys ≡ line_by b
